@@ -1,0 +1,5 @@
+pub mod formers
+pub mod Lending
+pub mod Numbers
+pub mod Arithmetic
+pub mod NumFields
