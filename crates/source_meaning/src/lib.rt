@@ -1,0 +1,7 @@
+//! What a source means, apart from the code that reads and runs it: its tokens, its grammar, the
+//! machine with memory, and a call. The definitions stand in `specs/`.
+#![tactic(auto)]
+
+mod token;
+
+pub use token::{Mark, Token, TokenKind};
