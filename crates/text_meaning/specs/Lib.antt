@@ -1,0 +1,5 @@
+pub mod Environment
+pub mod Terms
+pub mod Patterns
+pub mod Primitives
+pub mod Evaluate
