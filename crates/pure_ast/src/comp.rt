@@ -16,7 +16,7 @@ pub enum BoolOp {
 /// its regions with a mutable position among the parameters: `mem::replace` at 0, `mem::swap` at 0
 /// and 1.
 #[derive(Clone, Copy, Debug, PartialEq, Eq)]
-pub enum Prim {
+pub enum Primitive {
     Arith(IntTy, BinOp),
     Neg(IntTy),
     Not(IntTy),
@@ -35,5 +35,5 @@ pub enum Comp {
     Ok(Term),
     Fail,
     Call(DefId, List<Term>),
-    Prim(Prim, List<Term>),
+    Prim(Primitive, List<Term>),
 }

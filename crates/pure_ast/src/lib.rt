@@ -12,7 +12,7 @@ mod ty;
 mod value;
 
 pub use code::{Code, CodeNode};
-pub use comp::{BoolOp, Comp, Prim};
+pub use comp::{BoolOp, Comp, Primitive};
 pub use ctor::CtorId;
 pub use def::{Def, DefKind, Defs, PType};
 pub use pat::Pat;

@@ -13,8 +13,8 @@ use Rattle.aen_base.specs.Numbers.{Number}
 use Rattle.aen_base.specs.Arithmetic.{number, apply, negated, inverted, compared, cast_to}
 use Rattle.pure_ast.specs.declared.comp.BoolOp.{BoolOp}
 use Rattle.pure_ast.specs.declared.comp.BoolOp.TheVariants as O
-use Rattle.pure_ast.specs.declared.comp.Prim.{Prim}
-use Rattle.pure_ast.specs.declared.comp.Prim.TheVariants as P
+use Rattle.pure_ast.specs.declared.comp.Primitive.{Primitive}
+use Rattle.pure_ast.specs.declared.comp.Primitive.TheVariants as P
 use Rattle.pure_ast.specs.Values as v
 use Rattle.pure_ast.specs.Values.{PValue}
 use Rattle.text_meaning.specs.declared.Answer.{Answer}
@@ -93,7 +93,7 @@ backward Swap zero values = second_of_two values
 backward Swap (suc zero) values = first_of_two values
 backward _ _ values = A.Stuck
 
-abbrev pub primitive : Prim → List PValue → Answer
+abbrev pub primitive : Primitive → List PValue → Answer
 primitive (P.Arith t op) values = arithmetic t op values
 primitive (P.Neg t) values = on_number t (λ a. answered (negated t a.value)) values
 primitive (P.Not t) values = on_number t (λ a. A.Ok (v.number (number t (inverted t a.value)))) values
