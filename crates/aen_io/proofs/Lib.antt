@@ -1,0 +1,4 @@
+mod Entries
+mod Fronts
+mod Rising
+mod Writings
