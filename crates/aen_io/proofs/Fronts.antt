@@ -1,5 +1,5 @@
 -- What was read so far is the front of the content.
-use Rattle.std.proofs.Common.{◌≡◌, ℕ, ◌+◌, ◌<◌, ◌≤◌, List, [], ◌++◌, length, take, drop, Option, None, Some, MatchOption, IsSomeAnd, refl, ap, ◌∙◌, sym, subst, arith, length-take}
+use Rattle.std.proofs.Common.{◌≡◌, ℕ, ◌+◌, ◌<◌, ◌≤◌, List, [], ◌++◌, length, take, drop, Option, None, Some, IsSomeAnd, refl, ap, ◌∙◌, sym, subst, arith, length-take}
 use Rattle.std.proofs.lemmas.List.{append-nil, take_all}
 use Rattle.aen_io.specs.Told.{Told, OfContent}
 use Rattle.aen_io.specs.Turns.{GoesOn}

@@ -142,7 +142,7 @@ mod tests {
         entries.push((name, List::from_slice(rt.alloc(), b"fn f() {}")?))?;
         let mut files = MemFiles::new(entries, List::from_slice(rt.alloc(), &[2])?);
         let content = read_all(rt.alloc(), &mut files, "a.rs", 9)?;
-        assert!(rt; content.as_slice() == b"fn f() {}");
+        assert!(rt; content.as_slice() == b"fn f() {}".as_slice());
         // The third call, the first of this reading, is to fail.
         let failed = read_all(rt.alloc(), &mut files, "a.rs", 9);
         assert!(rt; failed.is_err_and(|e| e == ReadAll::Failed));

@@ -62,7 +62,7 @@ mod tests {
         let missing = read_all(rt.alloc(), &mut files, "aen_io_no_such_file.txt", 100);
         let folder = read_all(rt.alloc(), &mut files, ".", 100);
         fs::remove_file(&rt, name)?;
-        assert!(rt; content.is_ok_and(|c| c.as_slice() == b"two lines\nof text\n"));
+        assert!(rt; content.is_ok_and(|c| c.as_slice() == b"two lines\nof text\n".as_slice()));
         assert!(rt; missing.is_err() && folder.is_err());
         assert_eq!(rt; files.faults, 2);
         Ok(())

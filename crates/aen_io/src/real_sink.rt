@@ -54,7 +54,7 @@ mod tests {
         let mut sink = RealSink::new(Vec::new(rt.alloc()));
         let answer = write_all(&mut sink, b"two lines\nof text\n");
         assert!(rt; answer.is_ok());
-        assert!(rt; sink.writer.as_slice() == b"two lines\nof text\n");
+        assert!(rt; sink.writer.as_slice() == b"two lines\nof text\n".as_slice());
         assert_eq!(rt; sink.faults, 0);
     }
 }

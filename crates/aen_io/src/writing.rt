@@ -34,14 +34,14 @@ mod tests {
         let text = b"import AenPrelude";
         let mut whole = MemSink::new(rt.alloc(), List::new(rt.alloc()), 10, 17)?;
         assert!(rt; write_all(&mut whole, text).is_ok());
-        assert!(rt; whole.bytes() == text);
+        assert!(rt; whole.bytes() == text.as_slice());
         let second = List::from_slice(rt.alloc(), &[1])?;
         let mut part = MemSink::new(rt.alloc(), second, 10, 17)?;
         assert!(rt; write_all(&mut part, text).is_err());
-        assert!(rt; part.bytes() == b"import Aen");
+        assert!(rt; part.bytes() == b"import Aen".as_slice());
         let mut full = MemSink::new(rt.alloc(), List::new(rt.alloc()), 10, 6)?;
         assert!(rt; write_all(&mut full, text).is_err());
-        assert!(rt; full.bytes() == b"import");
+        assert!(rt; full.bytes() == b"import".as_slice());
         Ok(())
     }
 }

@@ -1,4 +1,4 @@
-use Rattle.std.proofs.Common.{arith, ◌≡◌, ◌≤◌, ◌<◌, ◌+◌, ◌∙◌, length, take, length-take, refl, ap}
+use Rattle.std.proofs.Common.{arith, ◌≡◌, ◌+◌, ◌∙◌, length, take, length-take, refl, ap}
 use Rattle.aen_io.specs.Reading.{IsCause}
 use Rattle.aen_io.proofs.Fronts.{front_empty, front_turn, front_end, front_long, has_room}
 use Rattle.aen_io.proofs.Rising.{cause_of_fault, err_of}
