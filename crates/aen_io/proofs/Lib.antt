@@ -1,4 +1,4 @@
 mod Entries
 mod Fronts
-mod Rising
-mod Writings
+pub mod Rising
+pub mod Writings

@@ -10,8 +10,14 @@ use Rattle.aen_io.specs.declared.reading.ReadAll.TheVariants.{Failed, TooLong, M
 pub rose_before : (a b c : ℕ) → a ≤ b → Rose b c → Rose a c
 rose_before a b c h r = omega arith
 
+pub rose_after : (a b c : ℕ) → Rose a b → b ≤ c → Rose a c
+rose_after a b c r h = omega arith
+
 pub fault_before : (told : Told) (name : List ℕ) (a b c : ℕ) → a ≤ b → FaultAt told name b c → FaultAt told name a c
 fault_before told name a b c h f = elim f as (λ _. FaultAt told name a c) [ inl m ↦ inl m | inr r ↦ inr (rose_before a b c h r) ]
+
+pub fault_after : (told : Told) (name : List ℕ) (a b c : ℕ) → FaultAt told name a b → b ≤ c → FaultAt told name a c
+fault_after told name a b c f h = elim f as (λ _. FaultAt told name a c) [ inl m ↦ inl m | inr r ↦ inr (rose_after a b c r h) ]
 
 -- a turn's failure is a cause of the whole call's
 pub cause_of_fault : (told now : Told) (name : List ℕ) (limit a b c : ℕ) (e : ReadAll)

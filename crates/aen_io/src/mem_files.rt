@@ -1,4 +1,4 @@
-ghost use Rattle.std.specs.Prelude.{◌≡◌, ◌≤◌, ◌-◌, ◌↔◌, ◌⊎◌, false, min, length, IsTrue, IsErr, IfOk, OnErr, Some};
+ghost use Rattle.std.specs.Prelude.{◌≡◌, ◌≤◌, ◌-◌, ◌↔◌, ◌⊎◌, false, min, length, IsTrue, IsErr, IfOk, OnErr};
 ghost use Rattle.std.specs.Option.{option_copied};
 ghost use Rattle.aen_io.specs.Told.{OfContent, IsMissing, IsPart, FaultAt};
 ghost use Rattle.aen_io.specs.Fake.{is_due, no_calls, after_call, content_of};

@@ -1,4 +1,4 @@
-ghost use Rattle.std.specs.Prelude.{◌≡◌, ◌<◌, ◌≤◌, ◌-◌, ◌++◌, ◌↔◌, ◌⊎◌, [], min, length, take, IsTrue, IsErr, IfOk, OnErr, Some, MatchResult};
+ghost use Rattle.std.specs.Prelude.{◌≡◌, ◌<◌, ◌≤◌, ◌-◌, ◌↔◌, ◌⊎◌, [], min, length, take, IsTrue, IsErr, IfOk, OnErr};
 ghost use Rattle.aen_io.specs.Faults.{Rose};
 ghost use Rattle.aen_io.specs.Written.{WritesAll};
 ghost use Rattle.aen_io.specs.Fake.{is_due, no_calls, after_call, is_full};
@@ -68,7 +68,8 @@ impl Sink for MemSink {
         ensures fails { IsErr result ↔ (IsTrue (is_due self.old.plan) ⊎ IsTrue (is_full self.old piece.now)) }
         ensures count { IfOk result (λ n. n ≡ min (length piece.now) (min self.old.piece (self.old.room - length self.old.bytes))) }
         ensures plan { self.new.plan ≡ after_call self.old.plan (is_full self.old piece.now) }
-        ensures sizes { (self.new.piece ≡ self.old.piece) × (self.new.room ≡ self.old.room) }
+        ensures same_piece { self.new.piece ≡ self.old.piece }
+        ensures same_room { self.new.room ≡ self.old.room }
         ensures later { self.old.plan.faults ≤ self.new.plan.faults }
         ensures bound { IfOk result (λ n. n ≤ length piece.now) }
         ensures taken { IfOk result (λ n. WritesAll (Some self.old.bytes) (Some self.new.bytes) (take n piece.now)) }
@@ -82,6 +83,7 @@ impl Sink for MemSink {
             return Err(Failed);
         }
         let n = piece.len().min(self.piece.min(left));
+        // There is room for them, so this takes no memory and doesn't fail.
         match self.bytes.extend_from_slice(&piece[..n]) {
             Ok(()) => Ok(n),
             Err(_) => Err(Failed),

@@ -1,5 +1,5 @@
 ghost use Rattle.std.specs.Prelude.{◌≡◌, ◌<◌, ◌≤◌, ◌^◌, ◌+◌, [], length, vec_len, IfOk, IfErr, OnOk};
-ghost use Rattle.aen_io.specs.Told.{OfContent, FaultAt};
+ghost use Rattle.aen_io.specs.Told.{OfContent};
 ghost use Rattle.aen_io.specs.Reading.{IsCause};
 ghost use Rattle.aen_io.specs.Turns.{IsFault, GoesOn};
 
