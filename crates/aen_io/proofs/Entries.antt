@@ -4,7 +4,7 @@ use Rattle.std.proofs.lemmas.List.{at_drop_more}
 use Rattle.std.proofs.lemmas.Slice.Eq.{bytes_eq-Decides}
 use Rattle.std.specs.Bool.{Decides}
 use Rattle.std.specs.Str.{bytes_eq}
-use Rattle.aen_io.specs.Fake.{content_of}
+use Rattle.aen_io.specs.InMemory.{content_of}
 
 pub content_at : (files : List (List ℕ × List ℕ)) (i : ℕ) (e : List ℕ × List ℕ) (name : List ℕ) → i < length files → e ≡ get_or files i e
     → content_of (drop i files) name ≡ cond (bytes_eq e.0 name) (Some e.1) (content_of (drop (i + 1) files) name)

@@ -3,4 +3,4 @@ pub mod Told
 pub mod Written
 pub mod Reading
 pub mod Turns
-pub mod Fake
+pub mod InMemory

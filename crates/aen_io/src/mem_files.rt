@@ -1,7 +1,7 @@
 ghost use Rattle.std.specs.Prelude.{◌≡◌, ◌≤◌, ◌-◌, ◌↔◌, ◌⊎◌, false, min, length, IsTrue, IsErr, IfOk, OnErr};
 ghost use Rattle.std.specs.Option.{option_copied};
 ghost use Rattle.aen_io.specs.Told.{OfContent, IsMissing, IsPart, FaultAt};
-ghost use Rattle.aen_io.specs.Fake.{is_due, no_calls, after_call, content_of};
+ghost use Rattle.aen_io.specs.InMemory.{is_due, no_calls, after_call, content_of};
 
 use crate::plan::Plan;
 use crate::{Failed, Files};
@@ -41,7 +41,7 @@ impl MemFiles {
 
 impl Files for MemFiles {
     ghost use Rattle.std.specs.Prelude.{Some};
-    ghost use Rattle.aen_io.specs.Fake.{content_of};
+    ghost use Rattle.aen_io.specs.InMemory.{content_of};
 
     ghost told = { λ m. Some (content_of m.files) };
 

@@ -1,7 +1,7 @@
 ghost use Rattle.std.specs.Prelude.{◌≡◌, ◌<◌, ◌≤◌, ◌-◌, ◌↔◌, ◌⊎◌, [], min, length, take, IsTrue, IsErr, IfOk, OnErr};
 ghost use Rattle.aen_io.specs.Faults.{Rose};
 ghost use Rattle.aen_io.specs.Written.{WritesAll};
-ghost use Rattle.aen_io.specs.Fake.{is_due, no_calls, after_call, is_full};
+ghost use Rattle.aen_io.specs.InMemory.{is_due, no_calls, after_call, is_full};
 
 use crate::plan::Plan;
 use crate::{Failed, Sink};
@@ -21,9 +21,9 @@ pub struct MemSink {
 
 impl Model for MemSink {
     ghost use Rattle.std.specs.Prelude.{◌≤◌, vec_len, vec_capacity};
-    ghost use Rattle.aen_io.specs.Fake.{Held};
+    ghost use Rattle.aen_io.specs.InMemory.{SinkState};
 
-    ghost Value = { Held };
+    ghost Value = { SinkState };
 
     ghost view = { λ s. record { bytes = s.bytes.items; plan = s.plan; piece = s.piece; room = s.room } };
 

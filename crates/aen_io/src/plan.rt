@@ -1,5 +1,5 @@
 ghost use Rattle.std.specs.Prelude.{◌≡◌, ◌≤◌, ◌||◌};
-ghost use Rattle.aen_io.specs.Fake.{is_due, no_calls, after_call};
+ghost use Rattle.aen_io.specs.InMemory.{is_due, no_calls, after_call};
 
 use aen_base::List;
 

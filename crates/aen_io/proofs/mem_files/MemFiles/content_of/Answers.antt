@@ -1,5 +1,5 @@
 use Rattle.std.proofs.Common.{refl}
-use Rattle.aen_io.specs.Fake.{content_of}
+use Rattle.aen_io.specs.InMemory.{content_of}
 use Rattle.aen_io.proofs.Entries.{content_hit, content_miss}
 use Rattle.aen_io.proofs.mem_files.MemFiles.content_of.Goals as goal
 

@@ -1,5 +1,5 @@
 use Rattle.std.proofs.Common.{◌≡◌, drop}
-use Rattle.aen_io.specs.Fake.{content_of}
+use Rattle.aen_io.specs.InMemory.{content_of}
 use Rattle.aen_io.proofs.mem_files.MemFiles.content_of.Given as goal
 
 -- the entries that are left have the same first one of this name

@@ -28,7 +28,7 @@ content_of ((n, content) ∷ files) name = if bytes_eq n name then Some content 
 
 -- a sink in memory: the bytes that it took, how many it takes in one call and in all, and which
 -- calls fail (PROMISES.md, "Safe and total")
-pub record Held : Type 0 where
+pub record SinkState : Type 0 where
   pub bytes : List ℕ
   pub plan : Plan
   pub piece : ℕ
@@ -36,5 +36,5 @@ pub record Held : Type 0 where
 
 -- no room is left for this piece, which isn't empty
 -- (PROMISES.md, "Safe and total")
-abbrev pub is_full : Held → List ℕ → Bool
+abbrev pub is_full : SinkState → List ℕ → Bool
 is_full s piece = (s.room - length s.bytes == 0) && nat_lt 0 (length piece)
