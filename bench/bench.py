@@ -20,7 +20,7 @@ def many_functions(size):
     """Functions with lets, sums of ten terms and a call of the function before."""
     parts, length, k = [], 0, 0
     while True:
-        call = f" + step{k - 1}(c, d)" if k else ""
+        call = f" + step{k - 1}(c, a)" if k else ""
         text = (
             f"fn step{k}(a: u32, b: u32) -> u32 {{\n"
             f"    let c = a + b + {k} + a + b + 2 + a + b + 3 + a;\n"
