@@ -1,0 +1,9 @@
+mod Lays
+mod LaysWords
+mod LaysNames
+mod LaysTypes
+mod LaysTerms
+mod LaysCode
+mod KnownNames
+mod LaysBinders
+mod LaysDefs
