@@ -1,6 +1,6 @@
-ghost use Rattle.std.specs.Prelude.{◌≡◌, MatchOption};
+ghost use Rattle.std.specs.Prelude.{◌≡◌, false, MatchOption};
 ghost use Rattle.aen_base.specs.Arithmetic as spec;
-ghost use Rattle.aen_base.specs.Operators.{IsOneType};
+ghost use Rattle.aen_base.specs.Operators.{is_shift};
 ghost use Rattle.aen_base.specs.Wholes.{whole};
 
 use crate::bitwise::{and, or, shift_left, shift_right, xor};
@@ -12,7 +12,7 @@ use crate::{BinOp, IntTy, Num, PanicKind, num};
 /// type's width; `DivideByZero` exactly where the divisor of `/` or `%` is 0. Both numbers have
 /// one type, except for shifts.
 pub fn checked(op: BinOp, a: Num, b: Num) -> Result<Num, PanicKind>
-    requires { IsOneType op a.ty b.ty }
+    requires { is_shift op ≡ false → a.ty ≡ b.ty }
     ensures { result ≡ spec.apply op a.ty a.value b.value }
 {
     match op {

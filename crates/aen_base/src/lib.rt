@@ -7,6 +7,10 @@ mod bits;
 mod bitwise;
 mod boxed;
 mod comparison;
+#[cfg(test)]
+mod edge_tests;
+#[cfg(test)]
+mod edge_values;
 mod ids;
 mod int_ty;
 mod limits;
