@@ -58,15 +58,9 @@ impl Whole {
         ensures { whole result ≡ spec.shift_right (whole self) places }
     {
         if self.neg && self.mag != 0 {
-            Whole {
-                neg: true,
-                mag: ((self.mag - 1) >> places) + 1,
-            }
+            Whole::new(true, ((self.mag - 1) >> places) + 1)
         } else {
-            Whole {
-                neg: false,
-                mag: self.mag >> places,
-            }
+            Whole::new(false, self.mag >> places)
         }
     }
 }

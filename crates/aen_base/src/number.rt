@@ -72,9 +72,6 @@ impl Num {
         ensures is { whole result ≡ self.now.value }
         ensures within { spec.in_range self.now.ty (whole result) ≡ true }
     {
-        Whole {
-            neg: self.neg,
-            mag: self.mag,
-        }
+        Whole::new(self.neg, self.mag)
     }
 }

@@ -12,14 +12,18 @@ pub(crate) struct Whole {
 }
 
 impl Whole {
+    /// The number of this sign and magnitude.
+    pub(crate) fn new(neg: bool, mag: u128) -> Whole
+        ensures { result ≡ record { neg = neg; mag = mag } }
+    {
+        Whole { neg, mag }
+    }
+
     /// The number with the other sign.
     pub(crate) fn negated(self) -> Whole
         ensures { whole result ≡ neg_ℤ (whole self) }
     {
-        Whole {
-            neg: !self.neg,
-            mag: self.mag,
-        }
+        Whole::new(!self.neg, self.mag)
     }
 
     /// The sum; None exactly where its magnitude has more than 128 bits.
@@ -28,17 +32,11 @@ impl Whole {
     {
         if self.neg == other.neg {
             let mag = self.mag.checked_add(other.mag)?;
-            Some(Whole { neg: self.neg, mag })
+            Some(Whole::new(self.neg, mag))
         } else if self.mag < other.mag {
-            Some(Whole {
-                neg: other.neg,
-                mag: other.mag - self.mag,
-            })
+            Some(Whole::new(other.neg, other.mag - self.mag))
         } else {
-            Some(Whole {
-                neg: self.neg,
-                mag: self.mag - other.mag,
-            })
+            Some(Whole::new(self.neg, self.mag - other.mag))
         }
     }
 
@@ -47,10 +45,7 @@ impl Whole {
         ensures { IsExact result (whole self *ℤ whole other) }
     {
         let mag = self.mag.checked_mul(other.mag)?;
-        Some(Whole {
-            neg: self.neg != other.neg,
-            mag,
-        })
+        Some(Whole::new(self.neg != other.neg, mag))
     }
 
     /// The quotient, truncated toward zero.
@@ -58,10 +53,7 @@ impl Whole {
         requires { 0 < other.mag }
         ensures { whole result ≡ int_div (whole self) (whole other) }
     {
-        Whole {
-            neg: self.neg != other.neg,
-            mag: self.mag / other.mag,
-        }
+        Whole::new(self.neg != other.neg, self.mag / other.mag)
     }
 
     /// The remainder, with the sign of the left side.
@@ -69,10 +61,7 @@ impl Whole {
         requires { 0 < other.mag }
         ensures { whole result ≡ int_rem (whole self) (whole other) }
     {
-        Whole {
-            neg: self.neg,
-            mag: self.mag % other.mag,
-        }
+        Whole::new(self.neg, self.mag % other.mag)
     }
 
     /// Whether this number is less than the other.
