@@ -78,7 +78,7 @@ module _ (defs : Defs) (known : Known defs) (names : List (List ℕ)) (are : Eac
   parameters : (ts : List PTy) (k : ℕ) → Each (IsType defs (length names)) ts →
       Lays free free (parameters_text defs names k ts) (parameters_tokens defs names k ts)
   parameters [] k e = nothing
-  parameters (t ∷ ts) k e = seq spaced_open (seq (var_lays k) (seq colon (seq (ty t e.0) (seq close_lays (parameters ts (suc k) e.1)))))
+  parameters (t ∷ ts) k e = seq (seq spaced_open (seq (var_lays k) (seq colon (seq (ty t e.0) close_lays)))) (parameters ts (suc k) e.1)
 
   pub binders : (ts : List PTy) → Each (IsType defs (length names)) ts →
       Lays free free (flat_map implicit_text names ++ (codes " (n : Nat)" ++ parameters_text defs names 0 ts))

@@ -38,9 +38,6 @@ becomes = glue free apart (blank (codes " ") ∷ tok (mark Becomes) ∷ blank (c
 semicolon : Lays free free (codes ";") (mark Semicolon ∷ [])
 semicolon = glue free free (tok (mark Semicolon) ∷ []) (λ r h. refl) (λ r h. refl)
 
-close_semicolon : Lays free free (codes ");") (mark Close ∷ mark Semicolon ∷ [])
-close_semicolon = glue free free (tok (mark Close) ∷ tok (mark Semicolon) ∷ []) (λ r h. refl) (λ r h. refl)
-
 matching : Lays apart apart (codes "(match ") (mark Open ∷ word (codes "match") ∷ [])
 matching = glue apart apart (tok (mark Open) ∷ tok (word (codes "match")) ∷ blank (codes " ") ∷ []) (λ r h. refl) (λ r h. refl)
 
@@ -63,9 +60,7 @@ module _ (defs : Defs) (known : Known defs) where
     code_lays (select t arms) k h =
         seq (line k) (seq matching (seq (term_lays defs known t h.0) (seq with_lays (seq (arms_lays arms k h.1) close_lays))))
     code_lays (last c) k h = seq (line k) (comp_lays defs known c h)
-    code_lays (bind_select v t arms rest) k h =
-        seq (line k) (seq (let_lays v) (seq from_lays (seq matching (seq (term_lays defs known t h.1) (seq with_lays
-        (seq (arms_lays arms k h.2) (seq close_semicolon (code_lays rest k h.3))))))))
+    code_lays (bind_select v t arms rest) k h = absurd h
 
     arms_lays : (arms : Arms) (k : ℕ) → AreArms defs arms → Lays free free (arms_text defs k arms) (arms_tokens defs arms)
     arms_lays no_arms k h = nothing

@@ -1,3 +1,6 @@
+mod Items
+mod Joins
+mod Chains
 mod Lays
 mod LaysWords
 mod LaysNames

@@ -45,11 +45,13 @@ declared_tokens defs t false =
 abbrev pub type_declaration : Defs → PType → List Token
 type_declaration defs t = declared_tokens defs t t.is_struct
 
--- `"(" var ":" aty ")"`, numbered from k
+-- `"(" var ":" aty ")"`, and parameters numbered from k
+abbrev pub parameter_tokens : Defs → List (List ℕ) → ℕ → PTy → List Token
+parameter_tokens defs names k t = mark Open ∷ var_token k ∷ mark Colon ∷ (type_tokens defs names t ++ mark Close ∷ [])
+
 abbrev pub parameters_tokens : Defs → List (List ℕ) → ℕ → List PTy → List Token
 parameters_tokens defs names k [] = []
-parameters_tokens defs names k (t ∷ rest) =
-    mark Open ∷ var_token k ∷ mark Colon ∷ (type_tokens defs names t ++ mark Close ∷ parameters_tokens defs names (suc k) rest)
+parameters_tokens defs names k (t ∷ rest) = parameter_tokens defs names k t ++ parameters_tokens defs names (suc k) rest
 
 -- `"(" "n" ":" "Nat" ")"`
 abbrev pub fuel_tokens : List Token
