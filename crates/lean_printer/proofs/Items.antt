@@ -1,5 +1,5 @@
 -- A part of a list is smaller than the list.
-use Rattle.std.proofs.Common.{◌≡◌, refl, ap, ℕ, zero, suc, ◌+◌, ◌<◌, List, [], ◌∷◌, length, get_or, arith}
+use Rattle.std.proofs.Common.{◌≡◌, ap, ℕ, zero, suc, ◌<◌, List, [], ◌∷◌, length, get_or, arith}
 use Rattle.pure_ast.specs.declared.pat.Pat.{Pat}
 use Rattle.pure_ast.specs.Code as c
 use Rattle.pure_ast.specs.Terms as t

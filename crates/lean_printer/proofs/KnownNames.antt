@@ -1,8 +1,7 @@
 -- The names that well-formed definitions cite are names, so they are read back.
-use Rattle.std.proofs.Common.{◌≡◌, refl, ap, sym, subst, ◌∙◌, ℕ, zero, suc, ◌<◌, ◌≤◌, Bool, true, false, ◌⊎◌, inl, inr, Option, Some, None, List, [], ◌∷◌, ◌++◌, length, arith}
+use Rattle.std.proofs.Common.{◌≡◌, refl, sym, subst, ℕ, zero, suc, ◌<◌, ◌≤◌, Bool, true, false, inl, inr, Option, Some, None, List, [], ◌∷◌, ◌++◌, length, arith}
 use Rattle.std.specs.Prelude.{codes, map, slice_get}
 use Rattle.std.specs.Option.{option_map, option_and_then}
-use Rattle.std.proofs.lemmas.Option.{slice_get-map}
 use Rattle.pure_ast.specs.declared.ctor.CtorId.{CtorId}
 use Rattle.pure_ast.specs.declared.ctor.CtorId.TheVariants.{Of, Brk, Ret}
 use Rattle.pure_ast.specs.declared.def.Def.{Def}
@@ -10,14 +9,13 @@ use Rattle.pure_ast.specs.declared.def.Defs.{Defs}
 use Rattle.pure_ast.specs.declared.def.PType.{PType}
 use Rattle.text_meaning.specs.declared.mark.Mark.TheVariants.{Dot}
 use Rattle.text_meaning.specs.Lists.{Each}
-use Rattle.text_meaning.specs.Lookups.{Variant, type_name, variant_name, function_name, parameter_name, parts_of, or_empty}
+use Rattle.text_meaning.specs.Lookups.{Variant, function_name, parts_of, or_empty}
 use Rattle.text_meaning.specs.Names.{IsName}
-use Rattle.text_meaning.specs.ShownNames.{name_text, ctor_text, callee_text, def_name_text}
-use Rattle.text_meaning.specs.SpelledNames.{ctor_tokens, callee_tokens, def_name_tokens}
-use Rattle.text_meaning.specs.Tokens.{Token, word, id, mark}
+use Rattle.text_meaning.specs.ShownNames.{name_text, ctor_text, def_name_text}
+use Rattle.text_meaning.specs.SpelledNames.{ctor_tokens, def_name_tokens}
+use Rattle.text_meaning.specs.Tokens.{id, mark}
 use Rattle.text_meaning.specs.WellFormed.{IsWellFormed, AreInOrder, function_of}
-use Rattle.text_meaning.specs.WellFormedTerms.{parameters_count}
-use Rattle.text_meaning.specs.WellFormedTypes.{IsDeclaration, AreVariants, parameters_of, names_of, type_names}
+use Rattle.text_meaning.specs.WellFormedTypes.{IsDeclaration, AreVariants}
 use Rattle.lean_printer.proofs.Lays.{Lays, seq, free, apart}
 use Rattle.lean_printer.proofs.LaysNames.{dot, dotted_lays, kind_lays}
 use Rattle.lean_printer.proofs.LaysTypes.{Known}
@@ -107,4 +105,5 @@ module _ (defs : Defs) (wf : IsWellFormed defs) where
   known = record {
     type_known = λ t count h. type_by t count (slice_get defs.types t) refl h;
     ctor_known = ctor;
-    callee_known = λ k count h. callee_by k count (slice_get defs.defs k) refl h }
+    callee_known = λ k count h. callee_by k count (slice_get defs.defs k) refl h;
+  }

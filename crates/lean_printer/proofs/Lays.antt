@@ -1,14 +1,14 @@
 -- A piece of text that is lexed as its tokens wherever what follows allows it, and how pieces join.
-use Rattle.std.proofs.Common.{◌≡◌, refl, ap, sym, subst, ◌∙◌, ℕ, zero, suc, Bool, true, false, not, ◌&&◌, List, [], ◌∷◌, ◌++◌, append_assoc}
+use Rattle.std.proofs.Common.{◌≡◌, refl, ap, sym, ◌∙◌, ℕ, Bool, true, false, not, ◌&&◌, List, [], ◌∷◌, ◌++◌, append_assoc}
 use Rattle.std.specs.Prelude.{◌==◌, if◌then◌else◌}
-use Rattle.std.specs.List.{list_all, flat_map}
+use Rattle.std.specs.List.{flat_map}
 use Rattle.std.specs.Char.{is_ascii_digit}
 use Rattle.std.specs.Fmt.{signed_decimal}
 use Rattle.std.proofs.lemmas.List.Folds.{list_all-append}
 use Rattle.text_meaning.specs.Lists.{Each}
 use Rattle.text_meaning.specs.Names.{begins, is_word_byte}
 use Rattle.text_meaning.specs.Tokens.{Token, word, id, number, mark, mark_text}
-use Rattle.text_meaning.specs.Lexing.{Lexed, BeginsWith, IsToken, is_gap, is_space, goes_on}
+use Rattle.text_meaning.specs.Lexing.{Lexed, IsToken, is_gap, is_space, goes_on}
 
 -- no word goes on here
 abbrev pub free : List ℕ → Bool
@@ -26,7 +26,8 @@ pub record Lays (s p : List ℕ → Bool) (text : List ℕ) (toks : List Token) 
 pub seq : {s m p : List ℕ → Bool} {a b : List ℕ} {us vs : List Token} → Lays s m a us → Lays m p b vs → Lays s p (a ++ b) (us ++ vs)
 seq {s} {m} {p} {a} {b} {us} {vs} x y = record {
   run = λ rest ts h l. coe 1 0 (i. Lexed (append_assoc us vs ts i) (append_assoc a b rest i)) (x.run (b ++ rest) (vs ++ ts) (y.start rest h) (y.run rest ts h l));
-  start = λ rest h. ap s (append_assoc a b rest) ∙ x.start (b ++ rest) (y.start rest h) }
+  start = λ rest h. ap s (append_assoc a b rest) ∙ x.start (b ++ rest) (y.start rest h);
+}
 
 pub nothing : {s : List ℕ → Bool} → Lays s s [] []
 nothing = record { run = λ rest ts h l. l; start = λ rest h. h }
@@ -41,13 +42,26 @@ gap_append g h p q = list_all-append is_space g h ∙ and_true (is_gap g) (is_ga
 pub gap_run : (g : List ℕ) → is_gap g ≡ true → (ts : List Token) (rest : List ℕ) → Lexed ts rest → Lexed ts (g ++ rest)
 gap_run g p [] rest l = gap_append g rest p l
 gap_run g p (t ∷ ts) rest l = record {
-  gap = g ++ l.gap; spelling = l.spelling; rest = l.rest; space = gap_append g l.gap p l.space;
-  split = ap (λ x. g ++ x) l.split ∙ sym (append_assoc g l.gap (l.spelling ++ l.rest)); token = l.token; later = l.later }
+  gap = g ++ l.gap;
+  spelling = l.spelling;
+  rest = l.rest;
+  space = gap_append g l.gap p l.space;
+  split = ap (λ x. g ++ x) l.split ∙ sym (append_assoc g l.gap (l.spelling ++ l.rest));
+  token = l.token;
+  later = l.later;
+}
 
 -- one token
 pub token_run : (t : Token) (spelling rest : List ℕ) (ts : List Token) → IsToken t spelling rest → Lexed ts rest → Lexed (t ∷ ts) (spelling ++ rest)
 token_run t spelling rest ts h l = record {
-  gap = []; spelling = spelling; rest = rest; space = refl; split = refl; token = h; later = l }
+  gap = [];
+  spelling = spelling;
+  rest = rest;
+  space = refl;
+  split = refl;
+  token = h;
+  later = l;
+}
 
 -- where a test fails, in both spellings
 pub not_true : (b : Bool) → not b ≡ true → b ≡ false

@@ -1,33 +1,32 @@
 -- Type parameters, fields and parameters are lexed as their tokens.
-use Rattle.std.proofs.Common.{◌≡◌, refl, ap, sym, ◌∙◌, ℕ, zero, suc, ◌<◌, Bool, true, List, [], ◌∷◌, ◌++◌, length, append_assoc}
+use Rattle.std.proofs.Common.{refl, ap, ◌∙◌, ℕ, suc, Bool, List, [], ◌∷◌, ◌++◌, length, append_assoc}
 use Rattle.std.specs.Prelude.{codes, map}
 use Rattle.std.specs.List.{flat_map}
-use Rattle.pure_ast.specs.declared.def.Def.{Def}
 use Rattle.pure_ast.specs.declared.def.Defs.{Defs}
 use Rattle.pure_ast.specs.Types.{PTy}
 use Rattle.text_meaning.specs.declared.mark.Mark.TheVariants.{Open, Close, OpenBrace, CloseBrace, Colon, To}
 use Rattle.text_meaning.specs.Lexing.{Lexed}
 use Rattle.text_meaning.specs.Lists.{Each}
-use Rattle.text_meaning.specs.Lookups.{parameter_name}
 use Rattle.text_meaning.specs.Names.{IsName}
-use Rattle.text_meaning.specs.Shown.{type_parameter_text, implicit_text, named_field_text, plain_field_text, parameters_text, binders_text, to}
+use Rattle.text_meaning.specs.Shown.{type_parameter_text, implicit_text, named_field_text, plain_field_text, parameters_text, to}
 use Rattle.text_meaning.specs.ShownNames.{name_text}
 use Rattle.text_meaning.specs.ShownTypes.{type_text}
 use Rattle.text_meaning.specs.SpelledTypes.{type_tokens}
-use Rattle.text_meaning.specs.Spelled.{type_parameter, implicit_parameter, named_field, plain_field, parameters_tokens, fuel_tokens, binder_tokens}
+use Rattle.text_meaning.specs.Spelled.{type_parameter, implicit_parameter, named_field, plain_field, parameters_tokens, fuel_tokens}
 use Rattle.text_meaning.specs.Tokens.{Token, word, id, mark}
 use Rattle.text_meaning.specs.WellFormedTypes.{IsType}
 use Rattle.lean_printer.proofs.KnownNames.{name_at}
 use Rattle.lean_printer.proofs.Lays.{Lays, seq, glue, blank, tok, free, apart, nothing, gap_run, each_lays}
 use Rattle.lean_printer.proofs.LaysCode.{line}
 use Rattle.lean_printer.proofs.LaysTypes.{Known, open_lays, close_lays, space, type_lays}
-use Rattle.lean_printer.proofs.LaysWords.{var_lays, name_lays, NameLays}
+use Rattle.lean_printer.proofs.LaysWords.{var_lays, name_lays}
 
 -- a line feed after the last token
 pub ended : {s : List ℕ → Bool} {a : List ℕ} {us : List Token} → Lays s free a us → Lays s free (a ++ codes "\n") us
 ended {s} {a} {us} x = record {
   run = λ rest ts h l. coe 1 0 (i. Lexed (us ++ ts) (append_assoc a (codes "\n") rest i)) (x.run (codes "\n" ++ rest) ts refl (gap_run (codes "\n") refl ts rest l));
-  start = λ rest h. ap s (append_assoc a (codes "\n") rest) ∙ x.start (codes "\n" ++ rest) refl }
+  start = λ rest h. ap s (append_assoc a (codes "\n") rest) ∙ x.start (codes "\n" ++ rest) refl;
+}
 
 pub colon : Lays free apart (codes " : ") (mark Colon ∷ [])
 colon = glue free apart (blank (codes " ") ∷ tok (mark Colon) ∷ blank (codes " ") ∷ []) (λ r h. refl) (λ r h. refl)
@@ -82,5 +81,5 @@ module _ (defs : Defs) (known : Known defs) (names : List (List ℕ)) (are : Eac
 
   pub binders : (ts : List PTy) → Each (IsType defs (length names)) ts →
       Lays free free (flat_map implicit_text names ++ (codes " (n : Nat)" ++ parameters_text defs names 0 ts))
-        (flat_map implicit_parameter names ++ (fuel_tokens ++ parameters_tokens defs names 0 ts))
+      (flat_map implicit_parameter names ++ (fuel_tokens ++ parameters_tokens defs names 0 ts))
   binders ts e = seq (implicits names are) (seq fuel_lays (parameters ts 0 e))

@@ -1,11 +1,11 @@
 -- Code is lexed as its tokens.
-use Rattle.std.proofs.Common.{◌≡◌, refl, ℕ, zero, suc, ◌+◌, Bool, true, List, [], ◌∷◌, ◌++◌}
+use Rattle.std.proofs.Common.{◌≡◌, refl, ℕ, zero, suc, ◌+◌, true, [], ◌∷◌}
 use Rattle.std.specs.Prelude.{codes}
 use Rattle.pure_ast.specs.declared.def.Defs.{Defs}
 use Rattle.pure_ast.specs.Code.{Code, Arms, bind, put, select, last, bind_select, no_arms, more_arms}
-use Rattle.text_meaning.specs.declared.mark.Mark.TheVariants.{Open, Close, Semicolon, Bar, Becomes, From, Gives}
+use Rattle.text_meaning.specs.declared.mark.Mark.TheVariants.{Open, Semicolon, Bar, Becomes, From, Gives}
 use Rattle.text_meaning.specs.Lexing.{is_gap}
-use Rattle.text_meaning.specs.Tokens.{Token, word, mark}
+use Rattle.text_meaning.specs.Tokens.{word, mark}
 use Rattle.text_meaning.specs.ShownCode.{code_text, arms_text, let_text, from, new_line, spaces}
 use Rattle.text_meaning.specs.SpelledCode.{code_tokens, arms_tokens}
 use Rattle.text_meaning.specs.SpelledNames.{var_token}

@@ -1,12 +1,11 @@
 -- What is laid out is read back: declarations, definitions, and the whole text.
-use Rattle.std.proofs.Common.{◌≡◌, refl, ap, sym, ◌∙◌, ℕ, zero, suc, ◌<◌, Bool, true, false, List, [], ◌∷◌, ◌++◌, length, pos, append-nil}
-use Rattle.std.specs.Prelude.{codes, map}
+use Rattle.std.proofs.Common.{refl, Bool, true, false, List, [], ◌∷◌, length, pos, append-nil}
+use Rattle.std.specs.Prelude.{codes}
 use Rattle.std.specs.List.{flat_map}
 use Rattle.std.specs.Fmt.{digits}
 use Rattle.pure_ast.specs.declared.def.Def.{Def}
 use Rattle.pure_ast.specs.declared.def.Defs.{Defs}
 use Rattle.pure_ast.specs.declared.def.PType.{PType}
-use Rattle.pure_ast.specs.Types.{PTy}
 use Rattle.text_meaning.specs.declared.mark.Mark.TheVariants.{Becomes, Bar, Gives, Plus, Colon}
 use Rattle.text_meaning.specs.Lexing.{Lexed}
 use Rattle.text_meaning.specs.Lists.{Each}
@@ -14,18 +13,17 @@ use Rattle.text_meaning.specs.Lookups.{Variant, function_name}
 use Rattle.text_meaning.specs.Names.{IsName}
 use Rattle.text_meaning.specs.Reading.{ReadsText}
 use Rattle.text_meaning.specs.Shown.{variant_text, structure_text, declared_text, declaration_text, definition_text, header, shown}
-use Rattle.text_meaning.specs.ShownCode.{new_line}
 use Rattle.text_meaning.specs.Spelled.{variant_tokens, structure_fields, declared_tokens, type_declaration, fuel_match, definition, tokens_of}
-use Rattle.text_meaning.specs.Tokens.{Token, word, id, number, mark}
+use Rattle.text_meaning.specs.Tokens.{word, number, mark}
 use Rattle.text_meaning.specs.WellFormed.{IsWellFormed, IsDefinition, function_of}
-use Rattle.text_meaning.specs.WellFormedTypes.{IsType, IsDeclaration, AreVariants, names_of}
+use Rattle.text_meaning.specs.WellFormedTypes.{IsType, IsDeclaration, AreVariants}
 use Rattle.lean_printer.proofs.KnownNames.{each_both, each_map, known, functions_named, types_are_named}
 use Rattle.lean_printer.proofs.Lays.{Lays, seq, glue, blank, tok, free, apart, nothing, each_lays}
 use Rattle.lean_printer.proofs.LaysBinders.{ended, colon, type_parameters, spaced_names, ty, named_fields, plain_fields, binders}
 use Rattle.lean_printer.proofs.LaysCode.{line, bar, code_lays}
 use Rattle.lean_printer.proofs.LaysNames.{kind_lays}
 use Rattle.lean_printer.proofs.LaysTypes.{Known}
-use Rattle.lean_printer.proofs.LaysWords.{name_lays, plain_lays, NameLays}
+use Rattle.lean_printer.proofs.LaysWords.{name_lays, NameLays}
 
 new : Lays free apart (codes "\n") []
 new = glue free apart (blank (codes "\n") ∷ []) (λ r h. refl) (λ r h. refl)
@@ -62,7 +60,7 @@ module _ (defs : Defs) (facts : Known defs) (t : PType) (named : IsName t.name) 
       Lays free free (flat_map (variant_text defs t) vs) (flat_map (variant_tokens defs t) vs)
   variants vs e = each_lays (variant_text defs t) (variant_tokens defs t) (λ v. IsName v.0 × Each (λ f. IsType defs (length t.params) f.1) v.1)
       (λ v h. seq (line 2) (seq bar (seq (name_lays v.0 h.0) (seq colon (seq (plain_fields defs facts t.params are v.1 h.1)
-        (seq (name_lays t.name named) (spaced_names t.params are))))))) vs e
+      (seq (name_lays t.name named) (spaced_names t.params are))))))) vs e
 
   fields : (vs : List Variant) → AreVariants true vs → Each (λ v. Each (λ f. IsType defs (length t.params) f.1) v.1) vs →
       Lays free free (structure_text defs t vs) (structure_fields defs t vs)
@@ -93,12 +91,13 @@ module _ (defs : Defs) (wf : IsWellFormed defs) where
   whole : Lays apart free (shown defs) (tokens_of defs)
   whole = seq header_lays (seq
       (each_lays (declaration_text defs) (type_declaration defs) (λ t. IsDeclaration defs t × IsName t.name) declaration defs.types
-        (each_both (IsDeclaration defs) (λ t. IsName t.name) defs.types wf.types (types_are_named defs wf)))
+      (each_both (IsDeclaration defs) (λ t. IsName t.name) defs.types wf.types (types_are_named defs wf)))
       (each_lays (definition_text defs) (definition defs) (λ d. IsDefinition defs d × NameLays (function_name defs (function_of d.kind))) one defs.defs
-        (each_both (IsDefinition defs) (λ d. NameLays (function_name defs (function_of d.kind))) defs.defs wf.definitions (functions_named defs wf))))
+      (each_both (IsDefinition defs) (λ d. NameLays (function_name defs (function_of d.kind))) defs.defs wf.definitions (functions_named defs wf))))
 
   -- the text of well-formed definitions reads as these definitions
   pub read_back : ReadsText (shown defs) defs
   read_back = record {
     tokens = coe 0 1 (i. Lexed (append-nil (tokens_of defs) i) (append-nil (shown defs) i)) (whole.run [] [] refl refl);
-    well_formed = wf }
+    well_formed = wf;
+  }

@@ -1,11 +1,10 @@
 -- The names of constructors, definitions and primitives are lexed as their tokens.
-use Rattle.std.proofs.Common.{◌≡◌, refl, ap, sym, ◌∙◌, ℕ, Bool, true, List, [], ◌∷◌, ◌++◌}
+use Rattle.std.proofs.Common.{◌≡◌, refl, ℕ, true, List, [], ◌∷◌, ◌++◌}
 use Rattle.std.specs.Prelude.{codes}
 use Rattle.aen_base.specs.declared.operators.BinOp.{BinOp}
 use Rattle.aen_base.specs.declared.operators.BinOp.TheVariants as B
 use Rattle.aen_base.specs.declared.operators.CmpOp.{CmpOp}
 use Rattle.aen_base.specs.declared.operators.CmpOp.TheVariants as C
-use Rattle.aen_base.specs.declared.operators.Builtin.{Builtin}
 use Rattle.aen_base.specs.declared.operators.Builtin.TheVariants.{BoxNew, Replace, Swap}
 use Rattle.pure_ast.specs.declared.comp.BoolOp.{BoolOp}
 use Rattle.pure_ast.specs.declared.comp.BoolOp.TheVariants as O
@@ -16,12 +15,12 @@ use Rattle.pure_ast.specs.declared.def.DefKind.TheVariants as K
 use Rattle.pure_ast.specs.declared.def.Defs.{Defs}
 use Rattle.text_meaning.specs.declared.mark.Mark.TheVariants.{Dot}
 use Rattle.text_meaning.specs.Lookups.{function_name}
-use Rattle.text_meaning.specs.Tokens.{Token, word, id, mark, loop_text, back_text}
-use Rattle.text_meaning.specs.ShownNames.{kind_text, function_text, prim_text, builtin_text}
+use Rattle.text_meaning.specs.Tokens.{word, mark, loop_text, back_text}
+use Rattle.text_meaning.specs.ShownNames.{kind_text, function_text, prim_text}
 use Rattle.text_meaning.specs.SpelledNames.{function_tokens, kind_tokens, prim_tokens, dotted, dotted_more}
 use Rattle.text_meaning.specs.WellFormed.{function_of}
-use Rattle.text_meaning.specs.Words.{int_word, arith_word, compare_word, bool_word}
-use Rattle.lean_printer.proofs.Lays.{Lays, seq, glue, blank, tok, free, apart}
+use Rattle.text_meaning.specs.Words.{arith_word, compare_word, bool_word}
+use Rattle.lean_printer.proofs.Lays.{Lays, seq, glue, tok, free, apart}
 use Rattle.lean_printer.proofs.LaysWords.{word_lays, int_lays, NameLays}
 
 pub dot : Lays free apart (codes ".") (mark Dot ∷ [])

@@ -1,8 +1,7 @@
 -- Terms, patterns and computations are lexed as their tokens.
-use Rattle.std.proofs.Common.{◌≡◌, refl, ℕ, ◌<◌, Bool, true, false, Option, Some, List, [], ◌∷◌, ◌++◌, length, arith}
+use Rattle.std.proofs.Common.{refl, ℕ, Bool, true, false, List, [], ◌∷◌, ◌++◌, arith}
 use Rattle.std.specs.Prelude.{codes, map}
 use Rattle.std.specs.List.{flat_map}
-use Rattle.std.specs.Fmt.{signed_decimal}
 use Rattle.aen_base.specs.Numbers.{Number}
 use Rattle.pure_ast.specs.declared.comp.Comp.{Comp}
 use Rattle.pure_ast.specs.declared.comp.Comp.TheVariants as C
@@ -11,11 +10,11 @@ use Rattle.pure_ast.specs.declared.pat.Pat.{Pat}
 use Rattle.pure_ast.specs.declared.pat.Pat.TheVariants as P
 use Rattle.pure_ast.specs.Terms.{Term, Terms, var, literal, truth, tuple, built, no_terms, more_terms, terms}
 use Rattle.text_meaning.specs.declared.mark.Mark.TheVariants.{Unit, Comma, Hash}
-use Rattle.text_meaning.specs.Tokens.{Token, word, id, mark, var_text}
+use Rattle.text_meaning.specs.Tokens.{word, mark, var_text}
 use Rattle.text_meaning.specs.Ranges.{IsInRange}
-use Rattle.text_meaning.specs.ShownTerms.{truth_text, number_text, term_text, spaced_terms, comma_terms, joined_variables, spaced_variables, pat_text, comp_text}
+use Rattle.text_meaning.specs.ShownTerms.{truth_text, number_text, term_text, spaced_terms, comma_terms, spaced_variables, pat_text, comp_text}
 use Rattle.text_meaning.specs.SpelledNames.{var_token}
-use Rattle.text_meaning.specs.SpelledTerms.{truth_tokens, number_tokens, term_tokens, terms_tokens, comma_tokens, comma_variables, pat_tokens, comp_tokens}
+use Rattle.text_meaning.specs.SpelledTerms.{truth_tokens, number_tokens, term_tokens, terms_tokens, comma_tokens, pat_tokens, comp_tokens}
 use Rattle.text_meaning.specs.WellFormedTerms.{IsTerm, AreTerms, IsPattern, IsComp}
 use Rattle.lean_printer.proofs.Lays.{Lays, seq, glue, blank, tok, free, apart, nothing}
 use Rattle.lean_printer.proofs.LaysNames.{prim_lays}

@@ -1,12 +1,12 @@
 -- Types are lexed as their tokens.
-use Rattle.std.proofs.Common.{◌≡◌, refl, ℕ, ◌<◌, Bool, true, Option, Some, List, [], ◌∷◌, ◌++◌, length}
+use Rattle.std.proofs.Common.{◌≡◌, refl, ℕ, ◌<◌, Some, List, [], ◌∷◌, length}
 use Rattle.std.specs.Prelude.{codes}
 use Rattle.pure_ast.specs.declared.ctor.CtorId.{CtorId}
 use Rattle.pure_ast.specs.declared.def.Defs.{Defs}
 use Rattle.pure_ast.specs.Types.{PTy, PTys, integer, boolean, unit, product, named, parameter, exit, no_ptys, more_ptys}
 use Rattle.text_meaning.specs.declared.mark.Mark.TheVariants.{Open, Close, Times}
 use Rattle.text_meaning.specs.Lookups.{type_name, parameter_name, parts_of}
-use Rattle.text_meaning.specs.Tokens.{Token, word, id, mark}
+use Rattle.text_meaning.specs.Tokens.{word, mark}
 use Rattle.text_meaning.specs.ShownNames.{ctor_text, callee_text}
 use Rattle.text_meaning.specs.ShownTypes.{type_text, spaced_types, times_types, times}
 use Rattle.text_meaning.specs.SpelledNames.{ctor_tokens, callee_tokens}

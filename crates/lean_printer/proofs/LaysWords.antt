@@ -1,20 +1,20 @@
 -- Words, names and numbers of a text are lexed as their tokens.
-use Rattle.std.proofs.Common.{◌≡◌, refl, ap, sym, subst, ◌∙◌, ℕ, zero, suc, ◌<◌, ◌≤◌, ◌^◌, Bool, true, false, not, ◌&&◌, ◌||◌, ◌⊎◌, inl, inr, List, [], ◌∷◌, ◌++◌, length, arith, ℤ, pos, negsuc}
-use Rattle.std.specs.Prelude.{◌==◌, if◌then◌else◌, codes, encode_utf8_all, chars}
+use Rattle.std.proofs.Common.{◌≡◌, refl, ap, sym, subst, ◌∙◌, ℕ, ◌<◌, ◌≤◌, ◌^◌, Bool, true, false, not, ◌&&◌, ◌||◌, inl, inr, List, [], ◌∷◌, ◌++◌, arith, ℤ, pos, negsuc}
+use Rattle.std.specs.Prelude.{◌==◌, if◌then◌else◌, encode_utf8_all}
 use Rattle.std.specs.Char.{is_ascii_digit, digit_value}
 use Rattle.std.specs.Fmt.{decimal, signed_decimal}
 use Rattle.std.specs.Str.Parse.{IsNumeral}
 use Rattle.std.proofs.Math.Dec.{lit≤}
-use Rattle.std.proofs.lemmas.Bool.{ne_eqb, eqb-true, ltb-true}
+use Rattle.std.proofs.lemmas.Bool.{ne_eqb, ltb-true}
 use Rattle.std.proofs.lemmas.Fmt.{decimal_is_IsNumeral_wide}
 use Rattle.std.proofs.lemmas.Str.{encodes-chars}
 use Rattle.aen_base.specs.declared.int_ty.IntTy.{IntTy}
 use Rattle.aen_base.specs.declared.int_ty.IntTy.TheVariants.{U8, U16, U32, U64, U128, Usize, I8, I16, I32, I64, I128, Isize}
 use Rattle.aen_base.specs.Numbers as numbers
 use Rattle.aen_base.specs.Numbers.{Number, limit, in_range}
-use Rattle.text_meaning.specs.Lexing.{IsMarked, IsBare, quoted}
-use Rattle.text_meaning.specs.Names.{IsName, begins, is_word_byte, is_word_start, is_identifier, is_bare}
-use Rattle.text_meaning.specs.Tokens.{Token, word, id, number, mark, var_text}
+use Rattle.text_meaning.specs.Lexing.{IsMarked, quoted}
+use Rattle.text_meaning.specs.Names.{IsName, begins, is_word_start, is_identifier, is_bare}
+use Rattle.text_meaning.specs.Tokens.{word, id, number, var_text}
 use Rattle.text_meaning.specs.Ranges.{IsInRange}
 use Rattle.text_meaning.specs.ShownNames.{name_text}
 use Rattle.text_meaning.specs.SpelledNames.{var_token}
@@ -25,7 +25,8 @@ use Rattle.lean_printer.proofs.Lays.{Lays, free, apart, not_true, token_run}
 pub word_lays : (w : List ℕ) → ((rest : List ℕ) → apart (w ++ rest) ≡ true) → Lays apart free w (word w ∷ [])
 word_lays w k = record {
   run = λ rest ts h l. token_run (word w) w rest ts (refl, not_true _ h) l;
-  start = λ rest h. k rest }
+  start = λ rest h. k rest;
+}
 
 pub var_lays : (v : ℕ) → Lays apart free (var_text v) (var_token v ∷ [])
 var_lays v = word_lays (var_text v) (λ rest. refl)
@@ -62,18 +63,24 @@ bare_apart (c ∷ cs) rest h = start_apart c h
 pub bare_lays : (n : List ℕ) → is_bare n ≡ true → Lays apart free n (id n ∷ [])
 bare_lays n e = record {
   run = λ rest ts h l. token_run (id n) n rest ts (inl (record { same = refl; bare = e; ends = not_true _ h })) l;
-  start = λ rest h. bare_apart n rest (and_left _ _ (and_left _ _ (and_left _ _ e))) }
+  start = λ rest h. bare_apart n rest (and_left _ _ (and_left _ _ (and_left _ _ e)));
+}
 
 marked : (n : List ℕ) → IsName n → IsMarked n (quoted n)
 marked n h = record {
-  inner = n; same = refl; utf8 = h.utf8; identifier = h.identifier;
+  inner = n;
+  same = refl;
+  utf8 = h.utf8;
+  identifier = h.identifier;
   normal = ap is_identifier h.normal ∙ h.identifier;
-  is_name = sym (ap encode_utf8_all h.normal ∙ encodes-chars n h.utf8) }
+  is_name = sym (ap encode_utf8_all h.normal ∙ encodes-chars n h.utf8);
+}
 
 marked_lays : (n : List ℕ) → IsName n → Lays apart free (quoted n) (id n ∷ [])
 marked_lays n h = record {
   run = λ rest ts f l. token_run (id n) (quoted n) rest ts (inr (marked n h)) l;
-  start = λ rest f. refl }
+  start = λ rest f. refl;
+}
 
 name_by : (test : Bool) (n : List ℕ) → is_bare n ≡ test → IsName n → Lays apart free (if test then n else quoted n) (id n ∷ [])
 name_by true n e h = bare_lays n e
@@ -132,4 +139,5 @@ number_apart t (negsuc n) rest h = refl
 pub integer_lays : (n : Number) → IsInRange n → Lays apart free (signed_decimal n.value) (number n.value ∷ [])
 integer_lays n r = record {
   run = λ rest ts h l. token_run (number n.value) (signed_decimal n.value) rest ts (refl, free_digit rest h) l;
-  start = λ rest h. number_apart n.ty n.value rest r }
+  start = λ rest h. number_apart n.ty n.value rest r;
+}

@@ -19,7 +19,13 @@ fn put_let(out: &mut String, k: usize, variable: u32) -> Result<(), NoMem>
 }
 
 /// Adds the line of a bind.
-fn put_bind(out: &mut String, defs: &Defs, k: usize, variable: u32, comp: &Comp) -> Result<(), NoMem>
+fn put_bind(
+    out: &mut String,
+    defs: &Defs,
+    k: usize,
+    variable: u32,
+    comp: &Comp,
+) -> Result<(), NoMem>
     ensures { OnOk result (string_bytes out.new ≡ string_bytes out.old ++ (spec.new_line k ++ (spec.let_text variable ++ (spec.from ++ (terms.comp_text defs.now comp.now ++ (59 ∷ [])))))) }
 {
     put_let(out, k, variable)?;
@@ -48,7 +54,13 @@ fn put_head(out: &mut String, defs: &Defs, term: &Term) -> Result<(), NoMem>
 }
 
 /// Adds the line of a bind up to the head of its match.
-fn put_bind_head(out: &mut String, defs: &Defs, k: usize, variable: u32, term: &Term) -> Result<(), NoMem>
+fn put_bind_head(
+    out: &mut String,
+    defs: &Defs,
+    k: usize,
+    variable: u32,
+    term: &Term,
+) -> Result<(), NoMem>
     ensures { OnOk result (string_bytes out.new ≡ string_bytes out.old ++ (spec.new_line k ++ (spec.let_text variable ++ (spec.from ++ (codes "(match " ++ (terms.term_text defs.now term.now ++ codes " with")))))) }
 {
     put_let(out, k, variable)?;
@@ -102,7 +114,14 @@ pub(crate) fn put_code(out: &mut String, defs: &Defs, k: usize, code: &Code) -> 
 
 /// Adds the lines of a bind of a match.
 #[cycle(code)]
-fn put_bind_match(out: &mut String, defs: &Defs, k: usize, variable: u32, term: &Term, arms: &[(Pat, Code)]) -> Result<(), NoMem>
+fn put_bind_match(
+    out: &mut String,
+    defs: &Defs,
+    k: usize,
+    variable: u32,
+    term: &Term,
+    arms: &[(Pat, Code)],
+) -> Result<(), NoMem>
     ensures { OnOk result (string_bytes out.new ≡ string_bytes out.old ++ (spec.new_line k ++ (spec.let_text variable ++ (spec.from ++ (codes "(match " ++ (terms.term_text defs.now term.now ++ (codes " with" ++ (spec.arms_text defs.now k (trees.arms arms.now) ++ codes ");")))))))) }
 {
     put_bind_head(out, defs, k, variable, term)?;

@@ -21,7 +21,12 @@ fn put_type_parameters(out: &mut String, names: &[Name]) -> Result<(), NoMem>
     Ok(())
 }
 
-fn put_named_field(out: &mut String, defs: &Defs, names: &[Name], field: &(Name, PTy)) -> Result<(), NoMem>
+fn put_named_field(
+    out: &mut String,
+    defs: &Defs,
+    names: &[Name],
+    field: &(Name, PTy),
+) -> Result<(), NoMem>
     ensures { OnOk result (string_bytes out.new ≡ string_bytes out.old ++ spec.named_field_text defs.now names.now field.now) }
 {
     put_line(out, 2)?;
@@ -32,7 +37,12 @@ fn put_named_field(out: &mut String, defs: &Defs, names: &[Name], field: &(Name,
     put(out, ")")
 }
 
-fn put_named_fields(out: &mut String, defs: &Defs, names: &[Name], fields: &[(Name, PTy)]) -> Result<(), NoMem>
+fn put_named_fields(
+    out: &mut String,
+    defs: &Defs,
+    names: &[Name],
+    fields: &[(Name, PTy)],
+) -> Result<(), NoMem>
     ensures { OnOk result (string_bytes out.new ≡ string_bytes out.old ++ flat_map (spec.named_field_text defs.now names.now) fields.now) }
 {
     for field in fields {
@@ -41,7 +51,12 @@ fn put_named_fields(out: &mut String, defs: &Defs, names: &[Name], fields: &[(Na
     Ok(())
 }
 
-fn put_plain_fields(out: &mut String, defs: &Defs, names: &[Name], fields: &[(Name, PTy)]) -> Result<(), NoMem>
+fn put_plain_fields(
+    out: &mut String,
+    defs: &Defs,
+    names: &[Name],
+    fields: &[(Name, PTy)],
+) -> Result<(), NoMem>
     ensures { OnOk result (string_bytes out.new ≡ string_bytes out.old ++ flat_map (spec.plain_field_text defs.now names.now) fields.now) }
 {
     for field in fields {
@@ -61,7 +76,12 @@ fn put_spaced_names(out: &mut String, names: &[Name]) -> Result<(), NoMem>
     Ok(())
 }
 
-fn put_variant(out: &mut String, defs: &Defs, decl: &PType, variant: &(Name, List<(Name, PTy)>)) -> Result<(), NoMem>
+fn put_variant(
+    out: &mut String,
+    defs: &Defs,
+    decl: &PType,
+    variant: &(Name, List<(Name, PTy)>),
+) -> Result<(), NoMem>
     ensures { OnOk result (string_bytes out.new ≡ string_bytes out.old ++ spec.variant_text defs.now decl.now variant.now) }
 {
     put_line(out, 2)?;
@@ -73,7 +93,12 @@ fn put_variant(out: &mut String, defs: &Defs, decl: &PType, variant: &(Name, Lis
     put_spaced_names(out, decl.params.as_slice())
 }
 
-fn put_variants(out: &mut String, defs: &Defs, decl: &PType, variants: &[(Name, List<(Name, PTy)>)]) -> Result<(), NoMem>
+fn put_variants(
+    out: &mut String,
+    defs: &Defs,
+    decl: &PType,
+    variants: &[(Name, List<(Name, PTy)>)],
+) -> Result<(), NoMem>
     ensures { OnOk result (string_bytes out.new ≡ string_bytes out.old ++ flat_map (spec.variant_text defs.now decl.now) variants.now) }
 {
     for variant in variants {
@@ -95,7 +120,14 @@ fn put_structure(out: &mut String, defs: &Defs, decl: &PType) -> Result<(), NoMe
 fn put_declared(out: &mut String, defs: &Defs, decl: &PType) -> Result<(), NoMem>
     ensures { OnOk result (string_bytes out.new ≡ string_bytes out.old ++ spec.declared_text defs.now decl.now decl.now.is_struct) }
 {
-    put(out, if decl.is_struct { "structure " } else { "inductive " })?;
+    put(
+        out,
+        if decl.is_struct {
+            "structure "
+        } else {
+            "inductive "
+        },
+    )?;
     put_name(out, decl.name.as_str())?;
     put_type_parameters(out, decl.params.as_slice())?;
     put(out, " where")?;

@@ -23,7 +23,13 @@ fn put_implicits(out: &mut String, names: &[Name]) -> Result<(), NoMem>
     Ok(())
 }
 
-fn put_parameter(out: &mut String, defs: &Defs, names: &[Name], variable: u64, ty: &PTy) -> Result<(), NoMem>
+fn put_parameter(
+    out: &mut String,
+    defs: &Defs,
+    names: &[Name],
+    variable: u64,
+    ty: &PTy,
+) -> Result<(), NoMem>
     ensures { OnOk result (string_bytes out.new ≡ string_bytes out.old ++ spec.parameter_text defs.now names.now variable ty.now) }
 {
     put(out, " (")?;
@@ -33,7 +39,12 @@ fn put_parameter(out: &mut String, defs: &Defs, names: &[Name], variable: u64, t
     put(out, ")")
 }
 
-fn put_parameters(out: &mut String, defs: &Defs, names: &[Name], params: &[PTy]) -> Result<(), NoMem>
+fn put_parameters(
+    out: &mut String,
+    defs: &Defs,
+    names: &[Name],
+    params: &[PTy],
+) -> Result<(), NoMem>
     ensures { OnOk result (string_bytes out.new ≡ string_bytes out.old ++ spec.parameters_text defs.now names.now 0 params.now) }
 {
     for (place, ty) in params.iter().enumerate() {
@@ -66,7 +77,10 @@ fn put_definition(out: &mut String, defs: &Defs, def: &Def) -> Result<(), NoMem>
     ensures { OnOk result (string_bytes out.new ≡ string_bytes out.old ++ spec.definition_text defs.now def.now) }
 {
     put_signature(out, defs, def)?;
-    put(out, " :=\n  match n with\n  | 0 => outOfFuel\n  | n + 1 => do")?;
+    put(
+        out,
+        " :=\n  match n with\n  | 0 => outOfFuel\n  | n + 1 => do",
+    )?;
     put_code(out, defs, 4, &def.code)?;
     Ok(put(out, "\n")?)
 }

@@ -12,7 +12,11 @@ use pure_ast::{Comp, CtorId, Defs, Pat, Term, TermNode};
 fn put_truth(out: &mut String, value: bool) -> Result<(), NoMem>
     ensures { OnOk result (string_bytes out.new ≡ string_bytes out.old ++ spec.truth_text value) }
 {
-    if value { put(out, "true") } else { put(out, "false") }
+    if value {
+        put(out, "true")
+    } else {
+        put(out, "false")
+    }
 }
 
 #[cycle(term)]

@@ -68,7 +68,13 @@ fn put_product(out: &mut String, defs: &Defs, names: &[Name], parts: &[PTy]) -> 
 }
 
 #[cycle(ty)]
-fn put_named(out: &mut String, defs: &Defs, names: &[Name], id: TypeId, args: &[PTy]) -> Result<(), NoMem>
+fn put_named(
+    out: &mut String,
+    defs: &Defs,
+    names: &[Name],
+    id: TypeId,
+    args: &[PTy],
+) -> Result<(), NoMem>
     ensures { OnOk result (string_bytes out.new ≡ string_bytes out.old ++ spec.type_text defs.now names.now (trees.named id.0 (trees.ptys args.now))) }
 {
     match args {
@@ -83,7 +89,12 @@ fn put_named(out: &mut String, defs: &Defs, names: &[Name], id: TypeId, args: &[
 }
 
 #[cycle(ty)]
-fn put_spaced_types(out: &mut String, defs: &Defs, names: &[Name], parts: &[PTy]) -> Result<(), NoMem>
+fn put_spaced_types(
+    out: &mut String,
+    defs: &Defs,
+    names: &[Name],
+    parts: &[PTy],
+) -> Result<(), NoMem>
     ensures { OnOk result (string_bytes out.new ≡ string_bytes out.old ++ spec.spaced_types defs.now names.now (trees.ptys parts.now)) }
 {
     for part in parts {
@@ -94,7 +105,12 @@ fn put_spaced_types(out: &mut String, defs: &Defs, names: &[Name], parts: &[PTy]
 }
 
 #[cycle(ty)]
-fn put_times_types(out: &mut String, defs: &Defs, names: &[Name], parts: &[PTy]) -> Result<(), NoMem>
+fn put_times_types(
+    out: &mut String,
+    defs: &Defs,
+    names: &[Name],
+    parts: &[PTy],
+) -> Result<(), NoMem>
     ensures { OnOk result (string_bytes out.new ≡ string_bytes out.old ++ spec.times_types defs.now names.now (trees.ptys parts.now)) }
 {
     for part in parts {

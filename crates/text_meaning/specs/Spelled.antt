@@ -66,13 +66,13 @@ fuel_match = word (codes "match") ∷ word (codes "n") ∷ word (codes "with")
 -- the type parameters, the fuel and the parameters of a definition
 abbrev pub binder_tokens : Defs → Def → List Token
 binder_tokens defs d =
-  flat_map implicit_parameter d.type_params ++ (fuel_tokens ++ parameters_tokens defs d.type_params 0 d.params)
+    flat_map implicit_parameter d.type_params ++ (fuel_tokens ++ parameters_tokens defs d.type_params 0 d.params)
 
 -- `def`
 abbrev pub definition : Defs → Def → List Token
 definition defs d =
-  word (codes "def") ∷ (kind_tokens defs d.kind ++ (binder_tokens defs d ++ mark Colon ∷ word (codes "Result")
-  ∷ (type_tokens defs d.type_params d.result ++ mark Becomes ∷ (fuel_match ++ code_tokens defs d.code))))
+    word (codes "def") ∷ (kind_tokens defs d.kind ++ (binder_tokens defs d ++ mark Colon ∷ word (codes "Result")
+    ∷ (type_tokens defs d.type_params d.result ++ mark Becomes ∷ (fuel_match ++ code_tokens defs d.code))))
 
 -- `text`
 abbrev pub tokens_of : Defs → List Token

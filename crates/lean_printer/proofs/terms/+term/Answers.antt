@@ -1,7 +1,5 @@
 -- Each part is smaller than the whole, and a first part and the others are all parts.
-use Rattle.std.proofs.Common.{◌∙◌, refl, append_assoc, arith}
-use Rattle.pure_ast.specs.Terms.{tuple, built, terms}
-use Rattle.text_meaning.specs.ShownTerms.{term_text}
+use Rattle.std.proofs.Common.{refl, append_assoc, arith}
 use Rattle.lean_printer.proofs.Items.{terms_item}
 use Rattle.lean_printer.proofs.Joins.{first_and_rest}
 use Rattle.lean_printer.proofs.terms.+term.Goals as goal
