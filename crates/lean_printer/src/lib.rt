@@ -8,6 +8,8 @@ mod definitions;
 mod names;
 mod put;
 mod terms;
+#[cfg(test)]
+mod tests;
 mod types;
 mod words;
 
