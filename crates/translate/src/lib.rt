@@ -1,6 +1,8 @@
 //! From a program to the definitions that mean it.
 #![tactic(auto)]
 
+mod atom;
+
 ghost use Rattle.std.specs.Prelude.{IfOk};
 ghost use Rattle.source_meaning.specs.Typing.{IsTyped};
 ghost use Rattle.translate.specs.Lists.{Lists};
