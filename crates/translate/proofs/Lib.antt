@@ -1,3 +1,4 @@
 pub mod Places
 pub mod Environments
 pub mod Chains
+pub mod Frames
