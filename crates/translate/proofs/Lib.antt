@@ -2,3 +2,4 @@ pub mod Places
 pub mod Environments
 pub mod Chains
 pub mod Frames
+pub mod Expressions
