@@ -3,3 +3,4 @@ pub mod Environments
 pub mod Chains
 pub mod Frames
 pub mod Expressions
+pub mod Bodies
