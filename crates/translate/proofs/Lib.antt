@@ -4,3 +4,4 @@ pub mod Chains
 pub mod Frames
 pub mod Expressions
 pub mod Bodies
+pub mod Meaning
