@@ -46,19 +46,19 @@ arm_taken (Some variables) code others = code variables
 abbrev mutual
   pub code_answer : Calls → Environment → Code → Answer
   code_answer calls env (bind v c rest) =
-    then_do (comp_answer calls env c) (λ a. code_answer calls (with_value env v a) rest)
+      then_do (comp_answer calls env c) (λ a. code_answer calls (with_value env v a) rest)
   code_answer calls env (put v t rest) =
-    or_stuck (term_value env t) (λ a. code_answer calls (with_value env v a) rest)
+      or_stuck (term_value env t) (λ a. code_answer calls (with_value env v a) rest)
   code_answer calls env (select t arms) = or_stuck (term_value env t) (λ a. arms_answer calls env arms a)
   code_answer calls env (last c) = comp_answer calls env c
   code_answer calls env (bind_select v t arms rest) =
-    then_do (or_stuck (term_value env t) (λ a. arms_answer calls env arms a))
+      then_do (or_stuck (term_value env t) (λ a. arms_answer calls env arms a))
       (λ b. code_answer calls (with_value env v b) rest)
 
   pub arms_answer : Calls → Environment → Arms → PValue → Answer
   arms_answer calls env no_arms a = A.Stuck
   arms_answer calls env (more_arms p c rest) a =
-    arm_taken (fits p a) (λ variables. code_answer calls (env ++ variables) c) (arms_answer calls env rest a)
+      arm_taken (fits p a) (λ variables. code_answer calls (env ++ variables) c) (arms_answer calls env rest a)
 
 -- a definition's code on its arguments; Stuck where there is no definition
 abbrev pub entered : Calls → Option Def → List PValue → Answer
@@ -77,11 +77,11 @@ evaluate defs d values (suc n) = entered (λ e parts. evaluate defs e parts n) (
 
 -- the two cases of fuel, for proofs above
 pub evaluate_empty : (defs : Defs) (d : ℕ) (values : List PValue) →
-  evaluate defs d values zero ≡ without_fuel (slice_get defs.defs d)
+    evaluate defs d values zero ≡ without_fuel (slice_get defs.defs d)
 unfolding evaluate
 evaluate_empty defs d values = refl
 
 pub evaluate_more : (defs : Defs) (d : ℕ) (values : List PValue) (n : ℕ) →
-  evaluate defs d values (suc n) ≡ entered (λ e parts. evaluate defs e parts n) (slice_get defs.defs d) values
+    evaluate defs d values (suc n) ≡ entered (λ e parts. evaluate defs e parts n) (slice_get defs.defs d) values
 unfolding evaluate
 evaluate_more defs d values n = refl

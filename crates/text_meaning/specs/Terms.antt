@@ -17,4 +17,4 @@ abbrev mutual
   pub term_values : Environment → t.Terms → Option (List PValue)
   term_values env t.no_terms = Some []
   term_values env (t.more_terms x rest) =
-    option_and_then (λ value. option_map (λ values. value ∷ values) (term_values env rest)) (term_value env x)
+      option_and_then (λ value. option_map (λ values. value ∷ values) (term_values env rest)) (term_value env x)

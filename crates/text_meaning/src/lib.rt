@@ -3,7 +3,10 @@
 //! evaluator of texts meet.
 #![tactic(auto)]
 
+mod mark;
+
 use aen_base::PanicKind;
+pub use mark::Mark;
 use pure_ast::PValue;
 
 /// The answer of a definition on its arguments with some fuel.
