@@ -5,3 +5,4 @@ pub mod Frames
 pub mod Expressions
 pub mod Bodies
 pub mod Meaning
+pub mod Spines

@@ -48,6 +48,10 @@ operation op a b = C.Prim (P.Arith U32 op) (term_of a ∷ term_of b ∷ [])
 abbrev pub operated : ℕ → BinOp → Emitted → Emitted → Emitted
 operated n op left right = computed n (left.comps ++ right.comps) (operation op left.atom right.atom)
 
+-- a right side and then the operator, where n is the next variable after the left side
+abbrev pub right_emitted : ℕ → Atom → BinOp → Emitted → Emitted
+right_emitted n left op right = computed n right.comps (operation op left right.atom)
+
 -- an operator after its left side
 abbrev pub with_right : ℕ → BinOp → Emitted → (ℕ → Emitted) → Emitted
 with_right n op left right = operated n op left (right (n + length left.comps))
@@ -95,8 +99,12 @@ abbrev pub chain : ℕ → List Comp → c.Code → c.Code
 chain n [] rest = rest
 chain n (comp ∷ comps) rest = c.bind n comp (chain (n + 1) comps rest)
 
+-- computations, and then the atom as the answer
+abbrev pub chained : ℕ → List Comp → Atom → c.Code
+chained n comps a = chain n comps (c.last (C.Ok (term_of a)))
+
 abbrev pub finished : ℕ → Emitted → c.Code
-finished n e = chain n e.comps (c.last (C.Ok (term_of e.atom)))
+finished n e = chained n e.comps e.atom
 
 -- the parameters are the first variables
 abbrev pub parameter_atoms : ℕ → List Atom

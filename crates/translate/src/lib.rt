@@ -2,6 +2,9 @@
 #![tactic(auto)]
 
 mod atom;
+mod emitter;
+mod expression;
+mod spine;
 
 ghost use Rattle.std.specs.Prelude.{IfOk};
 ghost use Rattle.source_meaning.specs.Typing.{IsTyped};
