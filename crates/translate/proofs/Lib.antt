@@ -6,3 +6,4 @@ pub mod Expressions
 pub mod Bodies
 pub mod Meaning
 pub mod Spines
+pub mod Steps

@@ -12,7 +12,7 @@ pub record Adds (old new : Emitter) (e : Emitted) (a : Atom) : Type 0 where
   pub atom : a ≡ e.atom
 
 -- the steps add what is emitted for arguments, and give their terms
-pub record AddsAll (old new : Emitter) (e : EmittedAll) (parts : List Term) : Type 0 where
+pub record AddsAll (old new : Emitter) (e : EmittedAll) (terms : List Term) : Type 0 where
   pub comps : new.comps ≡ old.comps ++ e.comps
   pub next : new.next ≡ old.next + length e.comps
-  pub parts : parts ≡ e.parts
+  pub parts : terms ≡ e.parts
