@@ -25,15 +25,16 @@ rights_emitted n atoms left (r ∷ rest) = with_right n r.op (rights_emitted n a
 abbrev pub spine_emitted : ℕ → List Atom → Spine → Emitted
 spine_emitted n atoms s = rights_emitted n atoms (first_emitted n atoms s.first) s.rights
 
--- the parts are smaller than this number
-abbrev pub IsFirstBelow : ℕ → First → Type 0
-IsFirstBelow n (F.Atom a) = Unit {0}
-IsFirstBelow n (F.Call f args) = nodes_exprs (exprs args.now) < n
+-- how many nodes the arguments have
+abbrev pub first_nodes : First → ℕ
+first_nodes (F.Atom a) = 0
+first_nodes (F.Call f args) = nodes_exprs (exprs args.now)
 
+-- the parts are smaller than this number
 abbrev pub AreBelow : ℕ → List Right → Type 0
 AreBelow n [] = Unit {0}
 AreBelow n (r ∷ rest) = (nodes_expr r.side.now < n) × AreBelow n rest
 
 pub record IsBelow (n : ℕ) (s : Spine) : Type 0 where
-  pub first : IsFirstBelow n s.first
+  pub first : first_nodes s.first < n
   pub rights : AreBelow n s.rights

@@ -1,12 +1,13 @@
 ghost use Rattle.std.specs.Prelude.{◌≡◌, IfOk};
 ghost use Rattle.rust_ast.specs.Tree.{exprs};
 ghost use Rattle.translate.specs.Emit as spec;
+ghost use Rattle.translate.specs.Spine as spine;
 ghost use Rattle.translate.specs.Adds as adds;
 
 use crate::atom::Atom;
 use crate::emitter::Emitter;
 use crate::spine::{First, Right, Spine, along_left};
-use aen_base::{BinOp, DefId, FnId, IntTy, List, NoMem};
+use aen_base::{BinOp, DefId, IntTy, List, NoMem};
 use pure_ast::{Comp, Primitive, Term};
 use rust_ast::Expr;
 use std::alloc::Global;
@@ -34,12 +35,9 @@ pub fn expression(
     ensures { IfOk result (λ a. adds.Adds emitter.old emitter.new (spec.emit emitter.old.next atoms.now expr.now) a) }
 {
     let Spine { first, mut rights } = along_left(alloc, atoms, expr)?;
-    let mut atom = match first {
-        First::Atom(atom) => atom,
-        First::Call(function, items) => call(alloc, emitter, atoms, function, items)?,
-    };
+    let mut atom = begin(alloc, emitter, atoms, &first)?;
     while let Some(right) = rights.pop() {
-        atom = operate(alloc, emitter, atoms, atom, right)?;
+        atom = operate(alloc, emitter, atoms, atom, &right)?;
     }
     Ok(atom)
 }
@@ -51,28 +49,33 @@ fn operate(
     emitter: &mut Emitter,
     atoms: &[Atom],
     left: Atom,
-    right: Right<'_>,
+    right: &Right<'_>,
 ) -> Result<Atom, NoMem>
-    ensures { IfOk result (λ a. adds.Adds emitter.old emitter.new (spec.right_emitted emitter.old.next left right.entry.op (spec.emit emitter.old.next atoms.now right.entry.side.now)) a) }
+    ensures { IfOk result (λ a. adds.Adds emitter.old emitter.new (spec.right_emitted emitter.old.next left right.now.op (spec.emit emitter.old.next atoms.now right.now.side.now)) a) }
 {
     let side = expression(alloc, emitter, atoms, right.side)?;
     let comp = operation(alloc, right.op, left, side)?;
     emitter.compute(comp)
 }
 
-/// Emits the arguments of a call, and then the call.
+/// Emits what stands first in an expression: nothing for an atom, or the arguments of a call and
+/// then the call.
 #[cycle(expression)]
-fn call(
+fn begin(
     alloc: Global,
     emitter: &mut Emitter,
     atoms: &[Atom],
-    function: FnId,
-    items: &[Expr],
+    first: &First<'_>,
 ) -> Result<Atom, NoMem>
-    ensures { IfOk result (λ a. adds.Adds emitter.old emitter.new (spec.called emitter.old.next function.0 (spec.emit_all emitter.old.next atoms.now (exprs items.now))) a) }
+    ensures { IfOk result (λ a. adds.Adds emitter.old emitter.new (spine.first_emitted emitter.old.next atoms.now first.now) a) }
 {
-    let parts = arguments(alloc, emitter, atoms, items)?;
-    emitter.compute(Comp::Call(DefId(function.0), parts))
+    match first {
+        First::Atom(atom) => Ok(*atom),
+        First::Call(function, items) => {
+            let parts = arguments(alloc, emitter, atoms, items)?;
+            emitter.compute(Comp::Call(DefId(function.0), parts))
+        }
+    }
 }
 
 /// Emits arguments from left to right, and gives the terms that are their values.

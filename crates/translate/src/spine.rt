@@ -8,7 +8,7 @@ use rust_ast::{Expr, ExprNode};
 use std::alloc::Global;
 
 /// What stands first in an expression: an atom, or a call with its arguments.
-#[derive(Drop)]
+#[derive(Clone, Copy)]
 pub enum First<'a> {
     /// A number or a variable.
     Atom(Atom),
@@ -17,7 +17,7 @@ pub enum First<'a> {
 }
 
 /// An operator and its right side.
-#[derive(Drop)]
+#[derive(Clone, Copy)]
 pub struct Right<'a> {
     /// The operator.
     pub op: BinOp,
