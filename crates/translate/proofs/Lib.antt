@@ -6,4 +6,5 @@ pub mod Expressions
 pub mod Bodies
 pub mod Meaning
 pub mod Spines
+pub mod Items
 pub mod Steps
