@@ -8,3 +8,4 @@ pub mod Meaning
 pub mod Spines
 pub mod Items
 pub mod Steps
+pub mod Statements

@@ -11,7 +11,7 @@ use Rattle.pure_ast.specs.declared.comp.Primitive.TheVariants as P
 use Rattle.pure_ast.specs.declared.def.DefKind.TheVariants.{Forward}
 use Rattle.pure_ast.specs.declared.def.Def.{Def}
 use Rattle.pure_ast.specs.declared.def.Defs.{Defs}
-use Rattle.rust_ast.specs.Tree.{Expr, number, variable, binary, call, Exprs, no_exprs, more_exprs, bind, Stmts, no_stmts, more_stmts, Block, block, MaybeExpr, no_maybeexpr, some_maybeexpr}
+use Rattle.rust_ast.specs.Tree.{Expr, number, variable, binary, call, Exprs, no_exprs, more_exprs, Stmt, bind, Stmts, no_stmts, more_stmts, Block, block, MaybeExpr, no_maybeexpr, some_maybeexpr}
 use Rattle.rust_ast.specs.declared.function.Function.{Function}
 use Rattle.rust_ast.specs.declared.function.Program.{Program}
 use Rattle.translate.specs.declared.atom.Atom.{Atom}
@@ -76,6 +76,10 @@ abbrev mutual
   pub emit_all : ℕ → List Atom → Exprs → EmittedAll
   emit_all n atoms no_exprs = record { comps = []; parts = [] }
   emit_all n atoms (more_exprs e es) = with_rest n (emit n atoms e) (λ m. emit_all m atoms es)
+
+-- the value that a `let` binds
+abbrev pub bound : Stmt → Expr
+bound (bind s k e) = e
 
 -- a part, and what comes after it
 abbrev pub followed : List Comp → Emitted → Emitted

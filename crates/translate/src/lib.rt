@@ -4,6 +4,8 @@
 mod atom;
 mod emitter;
 mod expression;
+mod function;
+mod program;
 mod spine;
 
 ghost use Rattle.std.specs.Prelude.{IfOk};
@@ -11,6 +13,7 @@ ghost use Rattle.source_meaning.specs.Typing.{IsTyped};
 ghost use Rattle.translate.specs.Lists.{Lists};
 ghost use Rattle.translate.specs.Means.{Means};
 
+use crate::program::definitions;
 use aen_base::NoMem;
 use pure_ast::Defs;
 use rust_ast::Program;
@@ -22,5 +25,5 @@ pub fn translate(alloc: Global, program: &Program) -> Result<Defs, NoMem>
     ensures lists { IfOk result (Lists program.now) }
     ensures means { IfOk result (Means program.now) }
 {
-    Err(NoMem)
+    definitions(alloc, program)
 }
