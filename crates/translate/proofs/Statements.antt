@@ -1,13 +1,14 @@
 -- The statements of a body one by one.
-use Rattle.std.proofs.Common.{◌≡◌, ℕ, zero, suc, ◌+◌, List, [], ◌∷◌, ◌++◌, length, map, drop, replicate, refl, ap, sym, subst, ◌∙◌, arith, append_assoc, append-nil, length-append}
+use Rattle.std.proofs.Common.{◌≡◌, ℕ, zero, suc, ◌+◌, ◌<◌, ◌^◌, List, [], ◌∷◌, ◌++◌, length, map, drop, replicate, refl, ap, sym, subst, ◌∙◌, arith, append_assoc, append-nil, length-append}
 use Rattle.std.specs.List.{range_with_len}
 use Rattle.aen_base.specs.declared.span.Span.{Span}
 use Rattle.pure_ast.specs.declared.comp.Comp.{Comp}
 use Rattle.rust_ast.specs.Tree.{Expr, Stmt, bind, stmts, no_stmts, MaybeExpr}
 use Rattle.translate.specs.declared.atom.Atom.{Atom}
 use Rattle.translate.specs.declared.emitter.Emitter.{Emitter}
-use Rattle.translate.specs.Emit.{Emitted, bound, followed, emit, emit_body}
-use Rattle.translate.specs.Adds.{Adds}
+use Rattle.translate.specs.Emit.{Emitted, bound, followed, emit, emit_body, emit_block, emitted, parameter_atoms}
+use Rattle.rust_ast.specs.declared.function.Function.{Function}
+use Rattle.translate.specs.Adds.{Adds, IsNumbered}
 
 -- a body of which the statements before place i are emitted
 pub record AlongBody (old new : Emitter) (start : List Atom) (all : List Stmt) (final : MaybeExpr) (i : ℕ) (atoms : List Atom) : Type 0 where
@@ -75,3 +76,9 @@ range_more f from (suc n) at e =
 
 pub numbered_more : {X : Type 0} (f : ℕ → X) (n : ℕ) → map f (range_with_len 0 (n + 1)) ≡ map f (range_with_len 0 n) ++ f n ∷ []
 numbered_more f n = range_more f 0 n n (omega arith)
+
+pub numbered_by : (f : Function) (n m : ℕ) (atoms : List Atom) → n ≡ f.parameters → atoms ≡ parameter_atoms f.parameters →
+  m ≡ n + length (emit_block n atoms f.body).comps → m < 2 ^ 32 → IsNumbered f
+numbered_by f n m atoms en ea em small =
+  let same : length (emit_block n atoms f.body).comps ≡ length (emitted f).comps = (λ i. length (emit_block (en i) (ea i) f.body).comps) in
+  omega arith

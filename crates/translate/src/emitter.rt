@@ -1,4 +1,4 @@
-ghost use Rattle.std.specs.Prelude.{◌≡◌, ◌+◌, [], ◌∷◌, ◌++◌, length, IfOk};
+ghost use Rattle.std.specs.Prelude.{◌≡◌, ◌+◌, ◌<◌, ◌^◌, [], length, IfOk};
 ghost use Rattle.translate.specs.Emit as spec;
 ghost use Rattle.translate.specs.Adds as adds;
 
@@ -46,7 +46,8 @@ impl Emitter {
     /// ends with this atom. The only error is want of memory.
     pub fn finish(self, alloc: Global, first: u32, atom: Atom) -> Result<Code, NoMem>
         requires { self.next ≡ first + length self.comps }
-        ensures { IfOk result (λ code. code ≡ spec.chained first self.comps atom) }
+        ensures code { IfOk result (λ code. code ≡ spec.chained first self.comps atom) }
+        ensures small { IfOk result (λ code. self.next < 2 ^ 32) }
     {
         let Emitter { mut next, mut comps } = self;
         let mut code = Code::last(Comp::Ok(atom.term()));
