@@ -9,3 +9,6 @@ pub mod Spines
 pub mod Items
 pub mod Steps
 pub mod Statements
+pub mod Names
+pub mod Distinct
+pub mod WellFormed

@@ -32,7 +32,7 @@ use Rattle.translate.proofs.Expressions.{CallAgrees, Same}
 use Rattle.translate.proofs.Bodies.{function_agrees}
 
 -- the definition of a function has the function's number
-definitions_get : (k : ℕ) (fs : List Function) (i : ℕ) (f : Function) (j : ℕ) → j ≡ k + i → slice_get fs i ≡ Some f → slice_get (definitions k fs) i ≡ Some (definition j f)
+pub definitions_get : (k : ℕ) (fs : List Function) (i : ℕ) (f : Function) (j : ℕ) → j ≡ k + i → slice_get fs i ≡ Some f → slice_get (definitions k fs) i ≡ Some (definition j f)
 definitions_get k [] i f j e h = cc
 definitions_get k (g ∷ fs) zero f j e h =
   let same : k ≡ j = omega arith in
@@ -48,7 +48,7 @@ definitions_got k (g ∷ fs) zero d j e h =
 definitions_got k (g ∷ fs) (suc i) d j e h = definitions_got (k + 1) fs i d j (omega arith) h
 
 -- a function of a typed program calls functions of the program
-typed_at : (earlier fs : List Function) (k : ℕ) (f : Function) → AreTyped earlier fs → slice_get fs k ≡ Some f →
+pub typed_at : (earlier fs : List Function) (k : ℕ) (f : Function) → AreTyped earlier fs → slice_get fs k ≡ Some f →
   (before : List Function) × IsTypedFunction before f × ((j : ℕ) (g : Function) → slice_get before j ≡ Some g → slice_get (earlier ++ fs) j ≡ Some g)
 typed_at earlier [] k f typed h = absurd (cc)
 typed_at earlier (x ∷ fs) zero f (typed, rest) h =

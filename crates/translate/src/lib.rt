@@ -10,6 +10,7 @@ mod spine;
 
 ghost use Rattle.std.specs.Prelude.{IfOk};
 ghost use Rattle.source_meaning.specs.Typing.{IsTyped};
+ghost use Rattle.text_meaning.specs.WellFormed.{IsWellFormed};
 ghost use Rattle.translate.specs.Lists.{Lists};
 ghost use Rattle.translate.specs.Means.{Means};
 
@@ -24,6 +25,7 @@ pub fn translate(alloc: Global, program: &Program) -> Result<Defs, NoMem>
     requires { IsTyped program.now }
     ensures lists { IfOk result (Lists program.now) }
     ensures means { IfOk result (Means program.now) }
+    ensures well_formed { IfOk result IsWellFormed }
 {
     definitions(alloc, program)
 }
