@@ -14,8 +14,8 @@ pub drop_item : {X : Type 0} (xs : List X) (i : ℕ) (x : X) → i < length xs �
 drop_item [] i x h e = absurd (omega arith)
 drop_item (y ∷ xs) zero x h e = ap (λ z. z ∷ xs) (sym e)
 drop_item (y ∷ xs) (suc i) x h e =
-  let one : suc i + 1 ≡ suc (i + 1) = omega arith in
-  drop_item xs i x (omega arith) e ∙ ap (λ j. x ∷ drop j (y ∷ xs)) (sym one)
+    let one : suc i + 1 ≡ suc (i + 1) = omega arith in
+    drop_item xs i x (omega arith) e ∙ ap (λ j. x ∷ drop j (y ∷ xs)) (sym one)
 
 pub drop_all : {X : Type 0} (xs : List X) (i : ℕ) → length xs ≡ i → drop i xs ≡ []
 drop_all [] zero e = refl
@@ -27,8 +27,8 @@ pub take_item : {X : Type 0} (xs : List X) (i : ℕ) (x : X) → i < length xs �
 take_item [] i x h e = absurd (omega arith)
 take_item (y ∷ xs) zero x h e = ap (λ z. z ∷ []) (sym e)
 take_item (y ∷ xs) (suc i) x h e =
-  let one : suc i + 1 ≡ suc (i + 1) = omega arith in
-  ap (λ j. take j (y ∷ xs)) one ∙ ap (λ l. y ∷ l) (take_item xs i x (omega arith) e)
+    let one : suc i + 1 ≡ suc (i + 1) = omega arith in
+    ap (λ j. take j (y ∷ xs)) one ∙ ap (λ l. y ∷ l) (take_item xs i x (omega arith) e)
 
 pub map_push : {X Y : Type 0} (f : X → Y) (xs : List X) (x : X) → map f (xs ++ x ∷ []) ≡ map f xs ++ f x ∷ []
 map_push f [] x = refl
@@ -39,6 +39,6 @@ each_push P [] x h hx = (hx, tt)
 each_push P (y ∷ xs) x (hy, h) hx = (hy, each_push P xs x h hx)
 
 pub definitions_push : (k : ℕ) (fs : List Function) (f : Function) (j : ℕ) → j ≡ k + length fs →
-  definitions k (fs ++ f ∷ []) ≡ definitions k fs ++ definition j f ∷ []
+    definitions k (fs ++ f ∷ []) ≡ definitions k fs ++ definition j f ∷ []
 definitions_push k [] f j e = let same : k ≡ j = omega arith in ap (λ i. definition i f ∷ []) same
 definitions_push k (g ∷ fs) f j e = ap (λ l. definition k g ∷ l) (definitions_push (k + 1) fs f j (omega arith))

@@ -93,7 +93,7 @@ abbrev pub emit_body : ℕ → List Atom → Stmts → MaybeExpr → Emitted
 emit_body n atoms no_stmts no_maybeexpr = record { comps = []; atom = A.Variable 0 }
 emit_body n atoms no_stmts (some_maybeexpr e) = emit n atoms e
 emit_body n atoms (more_stmts (bind s k e) rest) last =
-  with_after n (emit n atoms e) (λ m atom. emit_body m (atoms ++ atom ∷ []) rest last)
+    with_after n (emit n atoms e) (λ m atom. emit_body m (atoms ++ atom ∷ []) rest last)
 
 abbrev pub emit_block : ℕ → List Atom → Block → Emitted
 emit_block n atoms (block s stmts last) = emit_body n atoms stmts last
@@ -123,7 +123,8 @@ definition k f = record {
   type_params = [];
   params = replicate f.parameters u32_type;
   result = u32_type;
-  code = finished f.parameters (emitted f) }
+  code = finished f.parameters (emitted f);
+}
 
 abbrev pub definitions : ℕ → List Function → List Def
 definitions k [] = []
@@ -133,4 +134,5 @@ abbrev pub translation : Program → Defs
 translation p = record {
   types = [];
   names = map (λ (f : Function). f.name) p.functions;
-  defs = definitions 0 p.functions }
+  defs = definitions 0 p.functions;
+}

@@ -49,7 +49,10 @@ impl Emitter {
         ensures code { IfOk result (λ code. code ≡ spec.chained first self.comps atom) }
         ensures small { IfOk result (λ code. self.next < 2 ^ 32) }
     {
-        let Emitter { mut next, mut comps } = self;
+        let Emitter {
+            mut next,
+            mut comps,
+        } = self;
         let mut code = Code::last(Comp::Ok(atom.term()));
         while let Some(comp) = comps.pop() {
             next -= 1;

@@ -16,13 +16,13 @@ use Rattle.translate.proofs.translate.Goals as goal
 
 pub returns-clause-lists : goal.returns-clause-lists
 returns-clause-lists c =
-  let p = c.args.program.now in
-  IfOk-weaker c.definitions.result (λ (d : Defs). d ≡ translation p) (Lists p) (λ d is. subst (Lists p) (sym is) (lists p)) c.definitions.ensures.same
+    let p = c.args.program.now in
+    IfOk-weaker c.definitions.result (λ (d : Defs). d ≡ translation p) (Lists p) (λ d is. subst (Lists p) (sym is) (lists p)) c.definitions.ensures.same
 
 pub returns-clause-means : goal.returns-clause-means
 returns-clause-means c =
-  let p = c.args.program.now in
-  IfOk-weaker c.definitions.result (λ (d : Defs). d ≡ translation p) (Means p) (λ d is. subst (Means p) (sym is) (means p c.requires)) c.definitions.ensures.same
+    let p = c.args.program.now in
+    IfOk-weaker c.definitions.result (λ (d : Defs). d ≡ translation p) (Means p) (λ d is. subst (Means p) (sym is) (means p c.requires)) c.definitions.ensures.same
 
 formed : (r : Result Defs NoMem) (p : Program) → IsTyped p → IfOk r (λ d. d ≡ translation p) → IfOk r (λ d. AreNumbered p.functions) → IfOk r IsWellFormed
 formed (Ok d) p typed is small = subst IsWellFormed (sym is) (well_formed p typed small)
@@ -30,4 +30,4 @@ formed (Err e) p typed is small = tt
 
 pub returns-clause-well_formed : goal.returns-clause-well_formed
 returns-clause-well_formed c =
-  formed c.definitions.result c.args.program.now c.requires c.definitions.ensures.same c.definitions.ensures.small
+    formed c.definitions.result c.args.program.now c.requires c.definitions.ensures.same c.definitions.ensures.small

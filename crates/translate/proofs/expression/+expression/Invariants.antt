@@ -1,4 +1,4 @@
-use Rattle.std.proofs.Common.{ℕ, ◌+◌, ◌*◌, length}
+use Rattle.std.proofs.Common.{◌+◌, ◌*◌, length}
 use Rattle.rust_ast.specs.Tree.{nodes_expr, nodes_exprs, exprs}
 use Rattle.translate.specs.Spine.{first_nodes}
 use Rattle.translate.proofs.Steps.{Along, AlongAll}

@@ -9,4 +9,5 @@ invariant-loop-function l = record {
   number : l.number ≡ l.function-index;
   names : l.names ≡ map (λ (f : Function). f.name) (take l.function-index l.program.functions);
   defs : l.defs ≡ spec.definitions 0 (take l.function-index l.program.functions);
-  small : adds.AreNumbered (take l.function-index l.program.functions) }
+  small : adds.AreNumbered (take l.function-index l.program.functions);
+}
