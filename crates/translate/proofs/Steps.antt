@@ -4,7 +4,6 @@ use Rattle.aen_base.specs.declared.operators.BinOp.{BinOp}
 use Rattle.pure_ast.specs.Code.{Code, bind}
 use Rattle.pure_ast.specs.Terms.{Term}
 use Rattle.pure_ast.specs.declared.comp.Comp.{Comp}
-use Rattle.pure_ast.specs.declared.comp.Comp.TheVariants as C
 use Rattle.rust_ast.specs.Tree.{Expr, exprs, nodes_expr}
 use Rattle.translate.specs.declared.spine.Right.{Right}
 use Rattle.translate.specs.Spine.{rights_emitted, AreBelow}
@@ -12,7 +11,7 @@ use Rattle.translate.proofs.Spines.{rights_push}
 use Rattle.translate.specs.declared.atom.Atom.{Atom}
 use Rattle.translate.specs.declared.atom.Atom.TheVariants as A
 use Rattle.translate.specs.declared.emitter.Emitter.{Emitter}
-use Rattle.translate.specs.Emit.{Emitted, EmittedAll, term_of, chain, computed, operation, operated, right_emitted, followed, with_right, emit, emit_all, then_all, called}
+use Rattle.translate.specs.Emit.{Emitted, EmittedAll, term_of, chain, operation, operated, right_emitted, followed, with_right, emit, emit_all, then_all}
 use Rattle.translate.specs.Adds.{Adds, AddsAll}
 use Rattle.translate.proofs.Chains.{chain_join}
 
@@ -129,30 +128,4 @@ along_all_next old mid new atoms items i terms after x a e pushed h step =
           ∙ ap (λ (l : List Expr). joined_all h.done (emit_all mid.next atoms (exprs l))) (sym e)
           ∙ ap (λ m. joined_all h.done (emit_all m atoms (exprs (drop i items)))) one
           ∙ h.whole;
-    }
-
-pub along_all_end : (old new : Emitter) (atoms : List Atom) (items : List Expr) (i : ℕ) (terms : List Term) → drop i items ≡ [] →
-    AlongAll old new atoms items i terms → AddsAll old new (emit_all old.next atoms (exprs items)) terms
-along_all_end old new atoms items i terms e h =
-    subst (λ (all : EmittedAll). AddsAll old new all terms)
-    ((λ j. record { comps = sym (append-nil h.done.comps) j; parts = sym (append-nil h.done.parts) j })
-    ∙ ap (λ (l : List Expr). joined_all h.done (emit_all (old.next + length h.done.comps) atoms (exprs l))) (sym e)
-    ∙ h.whole)
-    h.adds
-
--- a call after its arguments
-pub call_adds : (old mid new : Emitter) (f : ℕ) (all : EmittedAll) (terms : List Term) (comp : Comp) (a : Atom) → AddsAll old mid all terms →
-    comp ≡ C.Call (record { 0 = f }) terms → Adds mid new (computed mid.next [] comp) a → Adds old new (called old.next f all) a
-call_adds old mid new f all terms comp a h is step =
-    let same : comp ≡ C.Call (record { 0 = f }) all.parts = is ∙ ap (λ l. C.Call (record { 0 = f }) l) h.parts in
-    let len = length-append all.comps (comp ∷ []) in
-    let len2 = length-append all.comps (C.Call (record { 0 = f }) all.parts ∷ []) in
-    let one = h.next in
-    let two = step.next in
-    let e : mid.next + 0 ≡ old.next + length all.comps = omega arith in
-    record {
-      comps = step.comps ∙ ap (λ l. l ++ comp ∷ []) h.comps ∙ append_assoc old.comps all.comps (comp ∷ [])
-          ∙ ap (λ c. old.comps ++ (all.comps ++ c ∷ [])) same;
-      next = omega arith;
-      atom = step.atom ∙ ap A.Variable e;
     }
