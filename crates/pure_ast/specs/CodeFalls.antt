@@ -1,5 +1,5 @@
 -- Code is larger than its parts.
-use Rattle.std.specs.Prelude.{◌≤◌, ◌+◌, ℕ, List, [], ◌∷◌}
+use Rattle.std.specs.Prelude.{◌≤◌, ◌+◌, ◌*◌, ℕ, List, [], ◌∷◌}
 use Rattle.std.proofs.Common.{arith}
 use denote.Param.Weighed.{most}
 use Rattle.pure_ast.specs.declared.code.CodeNode.{CodeNode}
@@ -21,3 +21,11 @@ pub code_falls : (n : CodeNode) → deep-CodeNode n ≤ nodes_code (code_of n)
 code_falls (N.Match t all) = omega (arith, most_arms all)
 code_falls (N.BindMatch v t all rest) = omega (arith, most_arms all)
 code_falls _ = omega arith
+
+abbrev drop_weight : Pat × Code → ℕ
+drop_weight = shapes.weighed-CodeNode-Match-1-at-2.weight Code (λ c. 2 * (nodes_code c + 1) + 0)
+
+-- the arms of a match are smaller than the match
+pub most_dropped : (all : List (Pat × Code)) → most drop_weight all ≤ 2 * nodes_arms (arms all)
+most_dropped [] = omega arith
+most_dropped (x ∷ xs) = omega (arith, most_dropped xs)

@@ -1,6 +1,6 @@
 -- Made by tools/trees.py from tools/types.desc.py: the types of the printed language as data
 -- (TEXT.md, "Types").
-use Rattle.std.specs.Prelude.{◌≡◌, ℕ, zero, suc, ◌+◌, Bool, List, [], ◌∷◌, refl}
+use Rattle.std.specs.Prelude.{◌≡◌, ℕ, zero, suc, ◌+◌, List, [], ◌∷◌, refl}
 use Rattle.std.specs.Coded.{Coded, coded_ℕ}
 use Rattle.std.proofs.Common.{ap, sym, ◌∙◌, subst}
 use base.Stored.{Gv, gnil, gnum, gcons, num}

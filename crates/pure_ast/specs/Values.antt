@@ -1,7 +1,7 @@
 -- Made by tools/trees.py from tools/values.desc.py: the values of the printed language as data
 -- (TEXT.md, "Values").
 use Rattle.std.specs.Prelude.{◌≡◌, ℕ, zero, suc, ◌+◌, Bool, List, [], ◌∷◌, refl}
-use Rattle.std.specs.Coded.{Coded, coded_ℕ, coded_bool}
+use Rattle.std.specs.Coded.{Coded, coded_bool}
 use Rattle.std.proofs.Common.{ap, sym, ◌∙◌, subst}
 use base.Stored.{Gv, gnil, gnum, gcons, num}
 use Rattle.aen_base.specs.Numbers.{Number, coded_number}

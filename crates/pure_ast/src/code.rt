@@ -8,9 +8,24 @@ use std::marker::Model;
 
 /// The code of a definition. Contracts see it as `Code` of `specs/Code.antt`.
 #[cycle(code)]
-#[derive(Drop)]
 pub struct Code {
     pub node: CodeNode,
+}
+
+/// A long chain of binds is dropped in a loop.
+impl Drop for Code {
+    fn drop(mut self) {
+        loop {
+            let Code { node } = self;
+            match node {
+                CodeNode::Match(_term, _arms) => return,
+                CodeNode::Last(_comp) => return,
+                CodeNode::Bind(_, _comp, rest) => self = rest.into_inner(),
+                CodeNode::Let(_, _term, rest) => self = rest.into_inner(),
+                CodeNode::BindMatch(_, _term, _arms, rest) => self = rest.into_inner(),
+            }
+        }
+    }
 }
 
 /// The forms of code: a bind of a computation's value, a variable for a term, a match that ends the

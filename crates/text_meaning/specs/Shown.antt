@@ -30,10 +30,14 @@ named_field_text defs names field =
 abbrev pub plain_field_text : Defs → List (List ℕ) → List ℕ × PTy → List ℕ
 plain_field_text defs names field = type_text defs names field.1 ++ to
 
+-- names with a space before each
+abbrev pub spaced_names : List (List ℕ) → List ℕ
+spaced_names names = flat_map (λ name. codes " " ++ name_text name) names
+
 abbrev pub variant_text : Defs → PType → Variant → List ℕ
 variant_text defs t v =
     new_line 2 ++ (codes "| " ++ (name_text v.0 ++ (codes " : " ++ (flat_map (plain_field_text defs t.params) v.1
-    ++ (name_text t.name ++ flat_map (λ p. codes " " ++ name_text p) t.params)))))
+    ++ (name_text t.name ++ spaced_names t.params)))))
 
 abbrev pub structure_text : Defs → PType → List Variant → List ℕ
 structure_text defs t [] = []
@@ -50,11 +54,13 @@ declared_text defs t false =
 abbrev pub declaration_text : Defs → PType → List ℕ
 declaration_text defs t = codes "\n" ++ (declared_text defs t t.is_struct ++ codes "\n")
 
--- ` (v0 : U32)`, numbered from k
+-- ` (v0 : U32)`, and parameters numbered from k
+abbrev pub parameter_text : Defs → List (List ℕ) → ℕ → PTy → List ℕ
+parameter_text defs names k t = codes " (" ++ (var_text k ++ (codes " : " ++ (type_text defs names t ++ codes ")")))
+
 abbrev pub parameters_text : Defs → List (List ℕ) → ℕ → List PTy → List ℕ
 parameters_text defs names k [] = []
-parameters_text defs names k (t ∷ rest) =
-    codes " (" ++ (var_text k ++ (codes " : " ++ (type_text defs names t ++ (codes ")" ++ parameters_text defs names (suc k) rest))))
+parameters_text defs names k (t ∷ rest) = parameter_text defs names k t ++ parameters_text defs names (suc k) rest
 
 -- the type parameters, the fuel and the parameters of a definition
 abbrev pub binders_text : Defs → Def → List ℕ

@@ -42,10 +42,13 @@ abbrev mutual
   comma_terms defs no_terms = []
   comma_terms defs (more_terms t rest) = codes ", " ++ (term_text defs t ++ comma_terms defs rest)
 
--- variables with a comma and a space between them
+-- variables with a comma and a space before each, and between them
+abbrev pub comma_text : List ℕ → List ℕ
+comma_text variables = flat_map (λ w. codes ", " ++ var_text w) variables
+
 abbrev pub joined_variables : List ℕ → List ℕ
 joined_variables [] = []
-joined_variables (v ∷ rest) = var_text v ++ flat_map (λ w. codes ", " ++ var_text w) rest
+joined_variables (v ∷ rest) = var_text v ++ comma_text rest
 
 -- variables with a space before each
 abbrev pub spaced_variables : List ℕ → List ℕ

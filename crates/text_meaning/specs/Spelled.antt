@@ -45,11 +45,13 @@ declared_tokens defs t false =
 abbrev pub type_declaration : Defs → PType → List Token
 type_declaration defs t = declared_tokens defs t t.is_struct
 
--- `"(" var ":" aty ")"`, numbered from k
+-- `"(" var ":" aty ")"`, and parameters numbered from k
+abbrev pub parameter_tokens : Defs → List (List ℕ) → ℕ → PTy → List Token
+parameter_tokens defs names k t = mark Open ∷ var_token k ∷ mark Colon ∷ (type_tokens defs names t ++ mark Close ∷ [])
+
 abbrev pub parameters_tokens : Defs → List (List ℕ) → ℕ → List PTy → List Token
 parameters_tokens defs names k [] = []
-parameters_tokens defs names k (t ∷ rest) =
-    mark Open ∷ var_token k ∷ mark Colon ∷ (type_tokens defs names t ++ mark Close ∷ parameters_tokens defs names (suc k) rest)
+parameters_tokens defs names k (t ∷ rest) = parameter_tokens defs names k t ++ parameters_tokens defs names (suc k) rest
 
 -- `"(" "n" ":" "Nat" ")"`
 abbrev pub fuel_tokens : List Token
@@ -61,12 +63,16 @@ fuel_match = word (codes "match") ∷ word (codes "n") ∷ word (codes "with")
     ∷ mark Bar ∷ number (pos 0) ∷ mark Gives ∷ word (codes "outOfFuel")
     ∷ mark Bar ∷ word (codes "n") ∷ mark Plus ∷ number (pos 1) ∷ mark Gives ∷ word (codes "do") ∷ []
 
+-- the type parameters, the fuel and the parameters of a definition
+abbrev pub binder_tokens : Defs → Def → List Token
+binder_tokens defs d =
+    flat_map implicit_parameter d.type_params ++ (fuel_tokens ++ parameters_tokens defs d.type_params 0 d.params)
+
 -- `def`
 abbrev pub definition : Defs → Def → List Token
 definition defs d =
-    word (codes "def") ∷ (kind_tokens defs d.kind ++ (flat_map implicit_parameter d.type_params ++ (fuel_tokens
-    ++ (parameters_tokens defs d.type_params 0 d.params ++ mark Colon ∷ word (codes "Result")
-    ∷ (type_tokens defs d.type_params d.result ++ mark Becomes ∷ (fuel_match ++ code_tokens defs d.code))))))
+    word (codes "def") ∷ (kind_tokens defs d.kind ++ (binder_tokens defs d ++ mark Colon ∷ word (codes "Result")
+    ∷ (type_tokens defs d.type_params d.result ++ mark Becomes ∷ (fuel_match ++ code_tokens defs d.code))))
 
 -- `text`
 abbrev pub tokens_of : Defs → List Token

@@ -1,0 +1,12 @@
+mod Items
+mod Joins
+mod Chains
+mod Lays
+mod LaysWords
+mod LaysNames
+mod LaysTypes
+mod LaysTerms
+mod LaysCode
+mod KnownNames
+mod LaysBinders
+mod LaysDefs

@@ -1,0 +1,8 @@
+-- What is printed so far and what is left are the whole.
+use Rattle.std.proofs.Common.{◌≡◌, ◌++◌, drop, string_bytes}
+use Rattle.std.specs.List.{flat_map}
+use Rattle.text_meaning.specs.Shown.{type_parameter_text}
+use Rattle.lean_printer.proofs.declarations.put_type_parameters.Given as goal
+
+abbrev pub invariant-loop-name : goal.invariant-loop-name
+invariant-loop-name l = string_bytes l.out ++ flat_map type_parameter_text (drop l.name-index l.names) ≡ string_bytes l.fn.out ++ flat_map type_parameter_text l.names
