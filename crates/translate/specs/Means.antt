@@ -24,5 +24,5 @@ Agrees (O.Stuck s) a = ⊥
 -- for every function, its forward definition, all typed arguments and every number n
 abbrev pub Means : Program → Defs → Type 0
 Means p defs = (k : ℕ) (f : Function) (i : ℕ) (d : Def) (args : List PValue) (n : ℕ) →
-  slice_get p.functions k ≡ Some f → slice_get defs.defs i ≡ Some d → d.kind ≡ Forward (record { 0 = k }) →
-  AreArguments f args → Agrees (call_outcome p k f args n) (evaluate defs i args n)
+    slice_get p.functions k ≡ Some f → slice_get defs.defs i ≡ Some d → d.kind ≡ Forward (record { 0 = k }) →
+    AreArguments f args → Agrees (call_outcome p k f args n) (evaluate defs i args n)

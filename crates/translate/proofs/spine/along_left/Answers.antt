@@ -1,0 +1,27 @@
+use Rattle.std.proofs.Common.{◌≡◌, ◌≤◌, ap, sym, subst, refl, ◌∙◌}
+use Rattle.rust_ast.specs.Tree.{Expr, binary, nodes_expr}
+use Rattle.rust_ast.specs.View.{expr_of}
+use Rattle.translate.specs.declared.spine.Right.{Right}
+use Rattle.translate.specs.Spine as spec
+use Rattle.translate.proofs.Spines.{next_whole, next_below, next_left}
+use Rattle.translate.proofs.spine.along_left.Goals as goal
+
+pub loop-left-preserved : goal.loop-left-preserved
+loop-left-preserved c =
+    let whole = c.args.expr.now in
+    let left = c.loop-left.left.now in
+    let a = c.in-Binary.a in
+    let b = c.in-Binary.b in
+    let s = c.in-Binary.field-0 in
+    let op = c.in-Binary.op in
+    let r : Right = record { op = op; side = c.get.result } in
+    let is : left ≡ binary s op a b = sym c.left.view_is ∙ ap expr_of c.in-Binary.is in
+    let pushed = c.in_ok-push-in-Binary.ensures.ok in
+    let same : a ≡ c.get-left.result.now = sym c.get-left.ensures in
+    let here = c.loop-left.invariant in
+    record {
+      whole = λ n. subst (λ (e : Expr). spec.rights_emitted n c.args.atoms.now (spec.emit n c.args.atoms.now e) c.push.new.self ≡ spec.emit n c.args.atoms.now whole) same
+          (next_whole whole left a b s op c.loop-left.rights c.push.new.self r is refl c.get.ensures pushed c.args.atoms.now here.whole n);
+      left = subst (λ (e : Expr). nodes_expr e ≤ nodes_expr whole) same (next_left whole left a b s op c.loop-left.rights c.push.new.self r is refl c.get.ensures pushed here.left);
+      rights = next_below whole left a b s op c.loop-left.rights c.push.new.self r is refl c.get.ensures pushed here.left here.rights;
+    }
