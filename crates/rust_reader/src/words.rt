@@ -164,7 +164,7 @@ fn is_excluded_to_yield(w: &[u8]) -> bool
 }
 
 /// Whether a text is a word of the language.
-#[tactic(auto, using(crate::proofs::Words::word_parts))]
+#[tactic(auto, using(crate::proofs::Named::word_parts))]
 fn is_word(w: &[u8]) -> bool
     ensures { result ≡ parts.is_word w.now }
 {
@@ -172,7 +172,7 @@ fn is_word(w: &[u8]) -> bool
 }
 
 /// Whether a text is a word of Rust that the language leaves out.
-#[tactic(auto, using(crate::proofs::Words::excluded_parts))]
+#[tactic(auto, using(crate::proofs::Named::excluded_parts))]
 fn is_excluded(w: &[u8]) -> bool
     ensures { result ≡ parts.is_excluded w.now }
 {
@@ -180,7 +180,7 @@ fn is_excluded(w: &[u8]) -> bool
 }
 
 /// Whether a text is a name.
-#[tactic(auto, using(crate::proofs::Words::name_parts))]
+#[tactic(auto, using(crate::proofs::Named::name_parts))]
 pub(crate) fn is_name(w: &[u8]) -> bool
     ensures { result ≡ parts.is_name w.now }
 {
