@@ -7,10 +7,24 @@ use std::marker::Model;
 
 /// An expression, with its place in the source.
 #[cycle(expression)]
-#[derive(Drop)]
 pub struct Expr {
     /// The expression's kind and parts.
     pub node: ExprNode,
+}
+
+/// A long sum is a deep tree to the left, so the drop goes down that side in a loop.
+impl Drop for Expr {
+    fn drop(mut self) {
+        loop {
+            let Expr { node } = self;
+            match node {
+                ExprNode::Number(_, _) => return,
+                ExprNode::Variable(_, _) => return,
+                ExprNode::Call(_, _, _arguments) => return,
+                ExprNode::Binary(_, _, left, _right) => self = left.into_inner(),
+            }
+        }
+    }
 }
 
 /// What an expression is. Each kind begins with its span.

@@ -5,3 +5,4 @@ pub mod Grammar
 pub mod Memory
 pub mod Machine
 pub mod Typing
+pub mod Calling

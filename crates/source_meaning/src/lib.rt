@@ -2,6 +2,8 @@
 //! machine with memory, and a call. The definitions stand in `specs/`.
 #![tactic(auto)]
 
+mod outcome;
 mod token;
 
+pub use outcome::Outcome;
 pub use token::{Mark, Token, TokenKind};

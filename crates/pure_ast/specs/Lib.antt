@@ -1,0 +1,12 @@
+pub mod Types
+pub mod TypeView
+pub mod TypeFalls
+pub mod Terms
+pub mod TermView
+pub mod TermFalls
+pub mod Values
+pub mod ValueView
+pub mod ValueFalls
+pub mod Code
+pub mod CodeView
+pub mod CodeFalls

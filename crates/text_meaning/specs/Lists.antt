@@ -1,0 +1,12 @@
+-- Facts on each item of a list.
+use Rattle.std.specs.Prelude.{◌≡◌, List, [], ◌∷◌}
+
+-- P holds of each item
+abbrev pub Each : {A : Type 0} → (A → Type 0) → List A → Type 0
+Each P [] = Unit {0}
+Each P (x ∷ xs) = P x × Each P xs
+
+-- no two items are equal
+abbrev pub Differ : {A : Type 0} → List A → Type 0
+Differ [] = Unit {0}
+Differ (x ∷ xs) = Each (λ y. x ≡ y → ⊥) xs × Differ xs
