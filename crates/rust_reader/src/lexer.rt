@@ -76,6 +76,7 @@ impl Lexer {
         requires room { self.old.lo + 1 < 2 ^ 32 }
         ensures meaning { (cs : List ℕ) → Steps (spec.prepend self.old.tokens (spec.between self.old.lo c cs)) result (spec.prepend self.new.tokens (spec.from self.new.dash self.new.lo (string_bytes self.new.word) cs)) }
         ensures place { OnOk result (spec.place self.new.dash self.new.lo (string_bytes self.new.word) ≡ self.old.lo + 1) }
+        ensures held { OnOk result (spec.IsHeld self.new.dash (string_bytes self.new.word)) }
     {
         if is_space(c) {
             self.lo += 1;
@@ -96,6 +97,7 @@ impl Lexer {
         requires room { self.old.lo + 2 < 2 ^ 32 }
         ensures meaning { (cs : List ℕ) → Steps (spec.prepend self.old.tokens (spec.arrow self.old.lo (c ∷ cs))) result (spec.prepend self.new.tokens (spec.from self.new.dash self.new.lo (string_bytes self.new.word) cs)) }
         ensures place { OnOk result (spec.place self.new.dash self.new.lo (string_bytes self.new.word) ≡ self.old.lo + 2) }
+        ensures held { OnOk result (spec.IsHeld self.new.dash (string_bytes self.new.word)) }
     {
         if c != b'>' {
             return Err(ReadFault::Syntax);
