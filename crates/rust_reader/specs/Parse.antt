@@ -119,7 +119,7 @@ sum_from fs scope (suc n) a ts =
     else Some (a, ts)
 
 unfoldable pub sum : List Function → Scope → Parser Expr
-sum fs scope ts = and_then (term fs scope ts) (λ a us. sum_from fs scope (length us) a us)
+sum fs scope ts = and_then (term fs scope ts) (λ a us. sum_from fs scope (length ts) a us)
 
 -- ---- statements
 

@@ -34,3 +34,13 @@ impl From<AllocError> for ReadFault {
         ReadFault::Memory
     }
 }
+
+impl<T: Drop> From<AllocFailed<T>> for ReadFault {
+    ghost use Rattle.rust_reader.specs.declared.fault.ReadFault.TheVariants.{Memory};
+
+    ghost from_gives = { λ _ e. e ≡ Memory };
+
+    fn from(_: AllocFailed<T>) -> ReadFault {
+        ReadFault::Memory
+    }
+}

@@ -1,8 +1,14 @@
 //! Reads a source: its bytes into tokens, and these into a program.
 #![tactic(auto)]
 
+mod cursor;
+mod earlier;
+mod expressions;
 mod fault;
+mod functions;
 mod lexer;
+mod scope;
+mod statements;
 mod words;
 
 pub use fault::ReadFault;
