@@ -38,7 +38,7 @@ value_ok fs scope ts e rest h =
     (l, p, q, r, sum_begins fs scope e l rest q ∙ ap spec.starts_number (sym p) ∙ a)
 
 -- the end of what comes after one token
-after_span : (t u v : Token) (l : Tokens) (s : Span) → SpanOf s l → last_end t (u ∷ v ∷ l) ≡ s.hi
+pub after_span : (t u v : Token) (l : Tokens) (s : Span) → SpanOf s l → last_end t (u ∷ v ∷ l) ≡ s.hi
 after_span t u v [] s h = absurd h
 after_span t u v (x ∷ l) s h = sym (ap (λ (s : Span). s.hi) h)
 
@@ -203,7 +203,7 @@ signature_ok ts ps rest h =
 
 -- ---- functions
 
-abbrev function_of : WordAt → Scope → Body → Function
+abbrev pub function_of : WordAt → Scope → Body → Function
 function_of w ps b = record { name = w.name; span = w.span; parameters = length ps; variables = b.variables; body = b.block }
 
 function_parts : (fs : List Function) (fn_ t : Token) (w : WordAt) (us : Tokens) (ps : Scope) (vs : Tokens) (b : Body) (rest : Tokens) →

@@ -9,3 +9,7 @@ pub mod Sound
 pub mod Places
 pub mod Distinct
 pub mod Blocks
+pub mod Found
+pub mod FoundBlocks
+pub mod Typed
+pub mod Sources

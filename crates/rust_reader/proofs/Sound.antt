@@ -123,7 +123,7 @@ atom_ok scope ts e rest h =
     let (t, x, y, z) = word_ok ts w us a in
     (t ∷ [], x ∙ ap (λ vs. t ∷ vs) d, atom_of_ok scope w t e y z c, tt)
 
-atom_span : (scope : Scope) (e : Expr) (l : Tokens) → IsAtom scope e l → SpanOf (spec.span_of e) l
+pub atom_span : (scope : Scope) (e : Expr) (l : Tokens) → IsAtom scope e l → SpanOf (spec.span_of e) l
 atom_span scope (number s n) l (t, w, a, b, c, d, m, s1) = subst (λ l. SpanOf s l) (sym a) s1
 atom_span scope (variable s k) l (t, w, a, b, c, s1) = subst (λ l. SpanOf s l) (sym a) s1
 atom_span scope (binary s op a b) l h = absurd h

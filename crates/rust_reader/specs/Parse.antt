@@ -9,6 +9,7 @@ use Rattle.aen_base.specs.Arithmetic.{number as number_of}
 use Rattle.rust_ast.specs.Tree as tree
 use Rattle.rust_ast.specs.Tree.{Expr, Stmt, Block}
 use Rattle.rust_ast.specs.declared.function.Function.{Function}
+use Rattle.rust_ast.specs.declared.function.Program.{Program}
 use Rattle.source_meaning.specs.contracts.token.Mark.{the_type}
 use Rattle.source_meaning.specs.declared.token.Mark.{Mark}
 use Rattle.source_meaning.specs.declared.token.Mark.TheVariants.{Open, Close, OpenBrace, CloseBrace, Comma, Colon, Semicolon, Equals, Plus, Arrow}
@@ -178,3 +179,10 @@ functions_from (suc n) fs ts =
 -- the functions that the tokens are
 unfoldable pub program : Tokens → Option (List Function × Tokens)
 program ts = functions_from (length ts) [] ts
+
+abbrev pub program_of : Option (List Function × Tokens) → Option Program
+program_of None = None
+program_of (Some p) = Some (record { functions = p.0 })
+
+unfoldable pub whole : Tokens → Option Program
+whole ts = program_of (program ts)

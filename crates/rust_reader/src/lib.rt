@@ -7,8 +7,10 @@ mod expressions;
 mod fault;
 mod functions;
 mod lexer;
+mod read_source;
 mod scope;
 mod statements;
 mod words;
 
 pub use fault::ReadFault;
+pub use read_source::read;
