@@ -10,7 +10,8 @@ abbrev mutual
   IsCode defs (put v t rest) = IsSmall v × IsTerm defs t × IsCode defs rest
   IsCode defs (select t arms) = IsTerm defs t × AreArms defs arms
   IsCode defs (last c) = IsComp defs c
-  IsCode defs (bind_select v t arms rest) = IsSmall v × IsTerm defs t × AreArms defs arms × IsCode defs rest
+  -- a match at the right of a bind has a meaning, but the grammar doesn't have it yet
+  IsCode defs (bind_select v t arms rest) = ⊥
 
   pub AreArms : Defs → Arms → Type 0
   AreArms defs no_arms = Unit {0}

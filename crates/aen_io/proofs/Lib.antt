@@ -1,0 +1,4 @@
+mod Entries
+mod Fronts
+pub mod Rising
+pub mod Writings

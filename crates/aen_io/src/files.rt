@@ -1,0 +1,31 @@
+ghost use Rattle.std.specs.Prelude.{◌≡◌, ◌≤◌, ℕ, length, IfOk, OnErr};
+ghost use Rattle.aen_io.specs.Told.{Told, OfContent, IsPart, FaultAt};
+
+use thiserror::Error;
+
+/// A call on the outside failed.
+#[derive(Clone, Copy, Debug, PartialEq, Eq, Error)]
+#[error("reading or writing failed")]
+pub struct Failed;
+
+/// Files that can be read. Their content may be told; no call changes it. Faults are counted, as
+/// far as 64 bits can count.
+pub trait Files {
+    /// The content of each name, where it is told.
+    ghost told: { Self → Told };
+
+    /// The number of faults so far.
+    ghost faults: { Self → ℕ };
+
+    /// Reads bytes of the file `name`, from the byte `at` on, into the front of `buf`, and answers
+    /// how many. For a buffer that isn't empty, 0 is the file's end.
+    ///
+    /// `Failed` comes only where a fault was counted in this call, or where content is told and
+    /// the name isn't there. A name that is told not to be there is always answered so.
+    fn read_at(&mut self, name: &str, at: u64, buf: &mut [u8]) -> Result<usize, Failed>
+        ensures kept { told self.new ≡ told self.old }
+        ensures later { faults self.old ≤ faults self.new }
+        ensures bound { IfOk result (λ n. n ≤ length buf.new) }
+        ensures bytes { IfOk result (λ n. OfContent (told self.old) name.now (λ c. IsPart c at n buf.new)) }
+        ensures failed { OnErr result (FaultAt (told self.old) name.now (faults self.old) (faults self.new)) };
+}
