@@ -1,10 +1,10 @@
 -- What the readers of statements and functions give is what the grammar says.
-use Rattle.std.proofs.Common.{◌≡◌, ℕ, zero, suc, ◌+◌, ◌<◌, ◌≤◌, Bool, true, false, not, if◌then◌else◌, List, [], ◌∷◌, ◌++◌, length, map, take, slice_get, Option, Some, None, refl, sym, ap, subst, ◌∙◌, codes, is_some, append_assoc, arith, add-one, length-append, Contains}
+use Rattle.std.proofs.Common.{◌≡◌, ℕ, zero, suc, ◌+◌, ◌≤◌, Bool, true, false, not, if◌then◌else◌, List, [], ◌∷◌, ◌++◌, length, take, slice_get, Option, Some, refl, sym, ap, subst, ◌∙◌, codes, is_some, append_assoc, arith, length-append, Contains}
 use Rattle.std.proofs.lemmas.List.{append-nil}
 use Rattle.aen_base.specs.declared.span.Span.{Span}
-use Rattle.rust_ast.specs.Tree.{Expr, Stmt, bind, Stmts, more_stmts, no_stmts, stmts, Block, block, MaybeExpr, some_maybeexpr}
+use Rattle.rust_ast.specs.Tree.{Expr, Stmt, bind, no_stmts, stmts, block, MaybeExpr, some_maybeexpr}
 use Rattle.rust_ast.specs.declared.function.Function.{Function}
-use Rattle.source_meaning.specs.declared.token.Mark.TheVariants.{Open, Close, OpenBrace, CloseBrace, Comma, Colon, Semicolon, Equals, Plus, Arrow}
+use Rattle.source_meaning.specs.declared.token.Mark.TheVariants.{Open, Close, OpenBrace, CloseBrace, Colon, Semicolon, Equals, Arrow}
 use Rattle.source_meaning.specs.declared.token.Token.{Token}
 use Rattle.source_meaning.specs.Scope.{AreDistinct}
 use Rattle.source_meaning.specs.Grammar.{IsMark, IsWord, IsName, IsList, IsSum, SpanOf, last_end, begins_with_number, IsStmt, IsBody, IsBlock, IsParameter, IsFunction, AreFunctions}
@@ -13,12 +13,12 @@ use Rattle.rust_reader.specs.declared.statements.Binding.{Binding}
 use Rattle.rust_reader.specs.declared.statements.Bindings.{Bindings}
 use Rattle.rust_reader.specs.declared.statements.Body.{Body}
 use Rattle.rust_reader.specs.Lookup.{last_index, names}
-use Rattle.rust_reader.specs.Parser.{Tokens, Parser, and_then, ◌>>=◌, ◌>>◌, pure, known, where_, tail}
+use Rattle.rust_reader.specs.Parser.{Tokens, and_then, ◌>>=◌, ◌>>◌, pure, where_}
 use Rattle.rust_reader.specs.Parse as spec
 use Rattle.rust_reader.specs.Parse.{Scope}
 use Rattle.rust_reader.proofs.Tokens.{bind_ok, only_if, unless, pair_0, mark_ok, keyword_ok, name_ok}
 use Rattle.rust_reader.proofs.Indices.{absent_ok}
-use Rattle.rust_reader.proofs.Sound.{Chain, list_ok, sum_ok, sum_begins, last_push}
+use Rattle.rust_reader.proofs.Sound.{list_ok, sum_ok, sum_begins, last_push}
 use Rattle.rust_reader.proofs.Distinct.{Fresh, chain_distinct, not_some, absent_contains}
 use Rattle.rust_reader.proofs.Places.{take_append, get_append, length_push}
 
@@ -62,11 +62,11 @@ binding_ok fs scope ts b rest h =
     let (l, p4, i4, sp4, n4) = value_ok fs scope us3 e us4 a4 in
     let (t5, p5, m5, q5) = mark_ok Semicolon us4 s5 us5 a5 in
     let split : ts ≡ (t1 ∷ t2 ∷ t3 ∷ (l ++ t5 ∷ [])) ++ rest =
-        p1 ∙ ap (λ vs. t1 ∷ vs) (p2 ∙ ap (λ vs. t2 ∷ vs) (p3 ∙ ap (λ vs. t3 ∷ vs) (p4 ∙ ap (λ vs. l ++ vs) (p5 ∙ ap (λ vs. t5 ∷ vs) e7) ∙ sym (append_assoc l (t5 ∷ []) rest)))) in
+    p1 ∙ ap (λ vs. t1 ∷ vs) (p2 ∙ ap (λ vs. t2 ∷ vs) (p3 ∙ ap (λ vs. t3 ∷ vs) (p4 ∙ ap (λ vs. l ++ vs) (p5 ∙ ap (λ vs. t5 ∷ vs) e7) ∙ sym (append_assoc l (t5 ∷ []) rest)))) in
     let hi : last_end t1 (t2 ∷ t3 ∷ l) ≡ (spec.span_of e).hi = after_span t1 t2 t3 l (spec.span_of e) sp4 in
     let span : SpanOf (spec.joined s (spec.span_of e)) (t1 ∷ t2 ∷ t3 ∷ l) = λ i. record { lo = (sym q1 i).lo; hi = sym hi i } in
     let binds : Binds fs scope (made s w e) (t1 ∷ t2 ∷ t3 ∷ (l ++ t5 ∷ [])) =
-        λ variables taken at. (t1, t2, t3, l, t5, w.name, refl, m1, m2, m3, m5, refl, at, subst (λ sc. IsSum fs sc e l) (sym taken) i4, n4, span) in
+    λ variables taken at. (t1, t2, t3, l, t5, w.name, refl, m1, m2, m3, m5, refl, at, subst (λ sc. IsSum fs sc e l) (sym taken) i4, n4, span) in
     (t1 ∷ t2 ∷ t3 ∷ (l ++ t5 ∷ []), split, subst (λ x. Binds fs scope x (t1 ∷ t2 ∷ t3 ∷ (l ++ t5 ∷ []))) e6 binds)
 
 -- statements before the rest of a body
@@ -77,8 +77,8 @@ Bound fs scope sts ts bs rest = (new : List Stmt) × (more : Scope) × (l : Toke
 let_ok : (fs : List Function) (n : ℕ) (scope : Scope) (sts : List Stmt) (ts : Tokens) (bs : Bindings) (rest : Tokens) (test : Bool) →
     ((sc : Scope) (ss : List Stmt) (us : Tokens) → spec.bindings_from fs n sc ss us ≡ Some (bs, rest) → Bound fs sc ss us bs rest) →
     (if test
-        then and_then (spec.binding fs scope ts) (λ b us. spec.bindings_from fs n (scope ++ b.name ∷ []) (sts ++ b.statement ∷ []) us)
-        else (let r : Bindings = record { scope = scope; statements = sts } in Some (r, ts))) ≡ Some (bs, rest) → Bound fs scope sts ts bs rest
+    then and_then (spec.binding fs scope ts) (λ b us. spec.bindings_from fs n (scope ++ b.name ∷ []) (sts ++ b.statement ∷ []) us)
+    else (let r : Bindings = record { scope = scope; statements = sts } in Some (r, ts))) ≡ Some (bs, rest) → Bound fs scope sts ts bs rest
 let_ok fs n scope sts ts bs rest true more h =
     let (b, us, h1, h2) = bind_ok (spec.binding fs scope ts) (λ b us. spec.bindings_from fs n (scope ++ b.name ∷ []) (sts ++ b.statement ∷ []) us) (bs, rest) h in
     let (l1, p1, binds) = binding_ok fs scope ts b us h1 in
@@ -86,16 +86,27 @@ let_ok fs n scope sts ts bs rest true more h =
     let all : bs.scope ≡ scope ++ b.name ∷ names = p3 ∙ append_assoc scope (b.name ∷ []) names in
     let taken : take (length scope) bs.scope ≡ scope = ap (take (length scope)) all ∙ take_append scope (b.name ∷ names) in
     let at : slice_get bs.scope (length scope) ≡ Some b.name = ap (λ sc. slice_get sc (length scope)) all ∙ get_append scope b.name names in
-    let next : length (scope ++ b.name ∷ []) ≡ length scope + 1 = length_push scope b.name in
-    (b.statement ∷ new, b.name ∷ names, l1 ++ l2, p2 ∙ append_assoc sts (b.statement ∷ []) new, all,
-        p1 ∙ ap (λ vs. l1 ++ vs) p4 ∙ sym (append_assoc l1 l2 rest),
-        λ last r k. (l1, l2 ++ r, append_assoc l1 l2 r, binds bs.scope taken at, subst (λ n. IsBody fs bs.scope n (stmts new) last (l2 ++ r)) next (body last r k)))
+    let next : length (scope ++ b.name ∷ []) ≡ length scope + 1 = length_push scope b.name in (
+      b.statement ∷ new,
+      b.name ∷ names,
+      l1 ++ l2,
+      p2 ∙ append_assoc sts (b.statement ∷ []) new,
+      all,
+      p1 ∙ ap (λ vs. l1 ++ vs) p4 ∙ sym (append_assoc l1 l2 rest),
+      λ last r k. (l1, l2 ++ r, append_assoc l1 l2 r, binds bs.scope taken at, subst (λ n. IsBody fs bs.scope n (stmts new) last (l2 ++ r)) next (body last r k)),
+    )
 let_ok fs n scope sts ts bs rest false more h =
     let r : Bindings = record { scope = scope; statements = sts } in
     let (e1, e2) = pair_0 r bs ts rest h in
-    let p : bs.scope ≡ scope = ap (λ (b : Bindings). b.scope) (sym e1) in
-    ([], [], [], ap (λ (b : Bindings). b.statements) (sym e1) ∙ sym (append-nil sts), p ∙ sym (append-nil scope), e2,
-        λ last r k. subst (λ sc. IsBody fs bs.scope (length sc) no_stmts last r) p k)
+    let p : bs.scope ≡ scope = ap (λ (b : Bindings). b.scope) (sym e1) in (
+      [],
+      [],
+      [],
+      ap (λ (b : Bindings). b.statements) (sym e1) ∙ sym (append-nil sts),
+      p ∙ sym (append-nil scope),
+      e2,
+      λ last r k. subst (λ sc. IsBody fs bs.scope (length sc) no_stmts last r) p k,
+    )
 
 bindings_from_ok : (fs : List Function) (n : ℕ) (scope : Scope) (sts : List Stmt) (ts : Tokens) (bs : Bindings) (rest : Tokens) →
     spec.bindings_from fs n scope sts ts ≡ Some (bs, rest) → Bound fs scope sts ts bs rest
@@ -131,16 +142,20 @@ body_ok fs scope ts b rest h =
     let (t4, p6, m4, q4) = mark_ok CloseBrace us3 c us4 a4 in
     let inner = l2 ++ l3 in
     let split : ts ≡ (t1 ∷ ((l2 ++ l3) ++ t4 ∷ [])) ++ rest =
-        p1 ∙ ap (λ vs. t1 ∷ vs) (p4 ∙ ap (λ vs. l2 ++ vs) (p5 ∙ ap (λ vs. l3 ++ vs) (p6 ∙ ap (λ vs. t4 ∷ vs) e6))
-            ∙ sym (append_assoc l2 l3 (t4 ∷ rest)) ∙ sym (append_assoc (l2 ++ l3) (t4 ∷ []) rest)) in
+    p1 ∙ ap (λ vs. t1 ∷ vs) (p4 ∙ ap (λ vs. l2 ++ vs) (p5 ∙ ap (λ vs. l3 ++ vs) (p6 ∙ ap (λ vs. t4 ∷ vs) e6))
+    ∙ sym (append_assoc l2 l3 (t4 ∷ rest)) ∙ sym (append_assoc (l2 ++ l3) (t4 ∷ []) rest)) in
     let hi : last_end t1 ((l2 ++ l3) ++ t4 ∷ []) ≡ c.hi = last_push t1 (l2 ++ l3) t4 ∙ ap (λ (s : Span). s.hi) q4 in
     let span : SpanOf (spec.joined o c) (t1 ∷ ((l2 ++ l3) ++ t4 ∷ [])) = λ i. record { lo = (sym q1 i).lo; hi = sym hi i } in
     let body = close (some_maybeexpr e) l3 (refl, i3) in
     let body2 = subst (λ ss. IsBody fs bs.scope (length scope) (stmts ss) (some_maybeexpr e) (l2 ++ l3)) (sym p2) body in
     let it : IsBlock fs bs.scope (length scope) (block (spec.joined o c) (stmts bs.statements) (some_maybeexpr e)) (t1 ∷ ((l2 ++ l3) ++ t4 ∷ [])) =
-        (t1, l2 ++ l3, t4, refl, m1, m4, body2, span) in
-    (more, t1 ∷ ((l2 ++ l3) ++ t4 ∷ []), ap (λ (b : Body). b.variables) (sym e5) ∙ p3, split,
-        subst (λ (b : Body). IsBlock fs b.variables (length scope) b.block (t1 ∷ ((l2 ++ l3) ++ t4 ∷ []))) e5 it)
+    (t1, l2 ++ l3, t4, refl, m1, m4, body2, span) in (
+      more,
+      t1 ∷ ((l2 ++ l3) ++ t4 ∷ []),
+      ap (λ (b : Body). b.variables) (sym e5) ∙ p3,
+      split,
+      subst (λ (b : Body). IsBlock fs b.variables (length scope) b.block (t1 ∷ ((l2 ++ l3) ++ t4 ∷ []))) e5 it,
+    )
 
 -- ---- parameters
 
@@ -154,9 +169,11 @@ parameter_ok ts w rest h =
     let (e4, e5) = pair_0 v.name w us3 rest h3 in
     let (t1, p1, m1, q1) = name_ok ts v us1 a1 in
     let (t2, p2, m2, q2) = mark_ok Colon us1 s2 us2 a2 in
-    let (t3, p3, m3, q3) = keyword_ok (codes "u32") us2 s3 us3 a3 in
-    (t1 ∷ t2 ∷ t3 ∷ [], p1 ∙ ap (λ vs. t1 ∷ vs) (p2 ∙ ap (λ vs. t2 ∷ vs) (p3 ∙ ap (λ vs. t3 ∷ vs) e5)),
-        (t1, t2, t3, refl, subst (λ w. IsName w t1) e4 m1, m2, m3))
+    let (t3, p3, m3, q3) = keyword_ok (codes "u32") us2 s3 us3 a3 in (
+      t1 ∷ t2 ∷ t3 ∷ [],
+      p1 ∙ ap (λ vs. t1 ∷ vs) (p2 ∙ ap (λ vs. t2 ∷ vs) (p3 ∙ ap (λ vs. t3 ∷ vs) e5)),
+      (t1, t2, t3, refl, subst (λ w. IsName w t1) e4 m1, m2, m3),
+    )
 
 fresh_ok : (seen : Scope) (ts : Tokens) (w : List ℕ) (rest : Tokens) → spec.fresh_parameter seen ts ≡ Some (w, rest) →
     (l : Tokens) × (ts ≡ l ++ rest) × IsParameter w l × Fresh seen w
@@ -196,10 +213,20 @@ signature_ok ts ps rest h =
     let (inner, p2, list, apart) = parameters_ok us1 qs us2 a2 in
     let (t3, p3, m3, q3) = mark_ok Close us2 s3 us3 a3 in
     let (t4, p4, m4, q4) = mark_ok Arrow us3 s4 us4 a4 in
-    let (t5, p5, m5, q5) = keyword_ok (codes "u32") us4 s5 us5 a5 in
-    (t1, inner, t3, t4, t5,
-        p1 ∙ ap (λ vs. t1 ∷ vs) (p2 ∙ ap (λ vs. inner ++ vs) (p3 ∙ ap (λ vs. t3 ∷ vs) (p4 ∙ ap (λ vs. t4 ∷ vs) (p5 ∙ ap (λ vs. t5 ∷ vs) e7)))),
-        m1, m3, m4, m5, subst (λ ys. IsList IsParameter ys inner) e6 list, subst AreDistinct e6 apart)
+    let (t5, p5, m5, q5) = keyword_ok (codes "u32") us4 s5 us5 a5 in (
+      t1,
+      inner,
+      t3,
+      t4,
+      t5,
+      p1 ∙ ap (λ vs. t1 ∷ vs) (p2 ∙ ap (λ vs. inner ++ vs) (p3 ∙ ap (λ vs. t3 ∷ vs) (p4 ∙ ap (λ vs. t4 ∷ vs) (p5 ∙ ap (λ vs. t5 ∷ vs) e7)))),
+      m1,
+      m3,
+      m4,
+      m5,
+      subst (λ ys. IsList IsParameter ys inner) e6 list,
+      subst AreDistinct e6 apart,
+    )
 
 -- ---- functions
 
@@ -211,11 +238,33 @@ function_parts : (fs : List Function) (fn_ t : Token) (w : WordAt) (us : Tokens)
     (l : Tokens) × (fn_ ∷ t ∷ us ≡ l ++ rest) × IsFunction fs (function_of w ps b) l
 function_parts fs fn_ t w us ps vs b rest m1 m2 q2 apart (o, inner, c, a, y, p3, m3, m4, m5, m6, list, distinct) (more, l, p4, p5, it) =
     let taken : take (length ps) b.variables ≡ ps = ap (take (length ps)) p4 ∙ take_append ps more in
-    let within : length ps ≤ length b.variables = omega (arith, ap length p4, length-append ps more) in
-    (fn_ ∷ t ∷ o ∷ (inner ++ c ∷ a ∷ y ∷ l),
-        ap (λ ws. fn_ ∷ t ∷ ws) (p3 ∙ ap (λ ws. o ∷ (inner ++ c ∷ a ∷ y ∷ ws)) p5 ∙ ap (λ ws. o ∷ ws) (sym (append_assoc inner (c ∷ a ∷ y ∷ l) rest))),
-        (fn_, t, o, inner, c, a, y, l, refl, m1, m2, sym q2, m3, m4, m5, m6, within, subst (λ ys. IsList IsParameter ys inner) (sym taken) list,
-            subst AreDistinct (sym taken) distinct, it, apart))
+    let within : length ps ≤ length b.variables = omega (arith, ap length p4, length-append ps more) in (
+      fn_ ∷ t ∷ o ∷ (inner ++ c ∷ a ∷ y ∷ l),
+      ap (λ ws. fn_ ∷ t ∷ ws) (p3 ∙ ap (λ ws. o ∷ (inner ++ c ∷ a ∷ y ∷ ws)) p5 ∙ ap (λ ws. o ∷ ws) (sym (append_assoc inner (c ∷ a ∷ y ∷ l) rest))),
+      (
+        fn_,
+        t,
+        o,
+        inner,
+        c,
+        a,
+        y,
+        l,
+        refl,
+        m1,
+        m2,
+        sym q2,
+        m3,
+        m4,
+        m5,
+        m6,
+        within,
+        subst (λ ys. IsList IsParameter ys inner) (sym taken) list,
+        subst AreDistinct (sym taken) distinct,
+        it,
+        apart,
+      ),
+    )
 
 function_ok : (fs : List Function) (ts : Tokens) (f : Function) (rest : Tokens) → spec.function fs ts ≡ Some (f, rest) →
     (l : Tokens) × (ts ≡ l ++ rest) × IsFunction fs f l

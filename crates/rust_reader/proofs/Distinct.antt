@@ -1,5 +1,5 @@
 -- Names that differ, seen from the front and from the end.
-use Rattle.std.proofs.Common.{◌≡◌, ℕ, zero, suc, ◌<◌, Bool, true, false, not, List, [], ◌∷◌, ◌++◌, length, slice_get, Option, Some, None, is_some, refl, sym, ap, subst, ◌∙◌, ◌⊎◌, inl, inr, Contains}
+use Rattle.std.proofs.Common.{◌≡◌, ℕ, zero, suc, true, not, List, [], ◌∷◌, ◌++◌, slice_get, Option, Some, None, is_some, refl, sym, ap, subst, ◌∙◌, ◌⊎◌, inl, inr, Contains}
 use Rattle.std.proofs.lemmas.List.Elements.{Contains-append_cases, Contains-append_left, Contains-append_right, Contains-push}
 use Rattle.std.proofs.lemmas.Option.{slice_get_within, get_or_from_slice_get, slice_get-get_or}
 use Rattle.source_meaning.specs.Scope.{AreDistinct}
@@ -56,9 +56,10 @@ next_by xs z zs w d a h (inr k) = d (subst (Contains zs) (sym (single z w k)) h)
 
 pub distinct_chain : (xs zs : List (List ℕ)) → AreDistinct zs → Apart xs zs → Chain Fresh xs zs
 distinct_chain xs [] d a = tt
-distinct_chain xs (z ∷ zs) (n, d) a =
-    (a z (get_contains (z ∷ zs) z 0 refl),
-        distinct_chain (xs ++ z ∷ []) zs d (λ w h k. next_by xs z zs w n a h (Contains-append_cases xs (z ∷ []) w k)))
+distinct_chain xs (z ∷ zs) (n, d) a = (
+  a z (get_contains (z ∷ zs) z 0 refl),
+  distinct_chain (xs ++ z ∷ []) zs d (λ w h k. next_by xs z zs w n a h (Contains-append_cases xs (z ∷ []) w k)),
+)
 
 pub none_before : (zs : List (List ℕ)) → Apart [] zs
 none_before zs w h k = let (j, e) = found [] w k in cc

@@ -1,23 +1,21 @@
 -- Each expression of the grammar is what the readers give.
-use Rattle.std.proofs.Common.{◌≡◌, ℕ, zero, suc, ◌+◌, ◌-◌, ◌<◌, ◌≤◌, Bool, true, false, if◌then◌else◌, List, [], ◌∷◌, ◌++◌, length, Option, Some, None, refl, sym, ap, subst, ◌∙◌, ◌⊎◌, inl, inr, pos, codes, append_assoc, arith, length-append, zero-add}
+use Rattle.std.proofs.Common.{◌≡◌, ℕ, zero, suc, ◌+◌, ◌-◌, ◌<◌, Bool, true, false, if◌then◌else◌, List, [], ◌∷◌, ◌++◌, length, Some, refl, sym, ap, subst, ◌∙◌, ◌⊎◌, inl, inr, codes, append_assoc, arith, length-append, zero-add}
 use Rattle.std.proofs.lemmas.List.{append-nil}
 use Rattle.std.specs.Str.{bytes_eq}
 use Rattle.aen_base.specs.declared.span.Span.{Span}
-use Rattle.aen_base.specs.declared.int_ty.IntTy.TheVariants.{U32}
 use Rattle.aen_base.specs.declared.operators.BinOp.TheVariants.{Add}
-use Rattle.aen_base.specs.Arithmetic.{number as number_of}
 use Rattle.rust_ast.specs.Tree.{Expr, number, variable, binary, call, Exprs, no_exprs, more_exprs, exprs, exprs_list}
 use Rattle.rust_ast.specs.declared.function.Function.{Function}
 use Rattle.source_meaning.specs.declared.token.Mark.TheVariants.{Open, Close, Comma, Plus}
 use Rattle.source_meaning.specs.declared.token.Token.{Token}
 use Rattle.source_meaning.specs.Words.{is_number, is_name as is_name_of}
-use Rattle.source_meaning.specs.Grammar.{IsMark, IsWord, IsName, IsList, IsAtom, IsTerm, IsSum, SpanOf, last_end, begins_with_number}
-use Rattle.rust_reader.specs.Words.{is_name, number_value}
+use Rattle.source_meaning.specs.Grammar.{IsMark, IsWord, IsList, IsAtom, IsTerm, IsSum, SpanOf, begins_with_number}
+use Rattle.rust_reader.specs.Words.{is_name}
 use Rattle.rust_reader.specs.Lookup.{last_index}
-use Rattle.rust_reader.specs.Parser.{Tokens, Parser, and_then, known, tail}
+use Rattle.rust_reader.specs.Parser.{Tokens, Parser, and_then, tail}
 use Rattle.rust_reader.specs.Parse as spec
 use Rattle.rust_reader.specs.Parse.{Scope}
-use Rattle.rust_reader.proofs.Tokens.{at, bind_on, mark_on, word_on, name_same, starts_ok, starts_on, starts_other, starts_word, starts_keyword_other, number_on, name_number, same_bytes}
+use Rattle.rust_reader.proofs.Tokens.{at, mark_on, word_on, name_same, starts_ok, starts_on, starts_other, starts_word, starts_keyword_other, number_on, name_number, same_bytes}
 use Rattle.rust_reader.proofs.Indices.{last_on, OneEach, callee_on}
 use Rattle.rust_reader.proofs.Sound.{Chain, last_push, joined_span, atom_span, sum_begins}
 
@@ -26,9 +24,14 @@ use Rattle.rust_reader.proofs.Sound.{Chain, last_push, joined_span, atom_span, s
 atom_one : (scope : Scope) (e : Expr) (l : Tokens) → IsAtom scope e l →
     (t : Token) × (w : List ℕ) × (l ≡ t ∷ []) × IsWord w t × (spec.atom_of scope (at w t) ≡ Some e) × ((is_number w ≡ true) ⊎ (is_name_of w ≡ true))
 unfolding spec.atom_of
-atom_one scope (number s n) l (t, w, a, b, c, d, m, s1) =
-    (t, w, a, b,
-        ap (λ o. spec.atom_from t.span o (is_name w) (last_index scope w)) (number_on w c d) ∙ (λ i. Some (number (sym s1 i) (sym m i))), inl c)
+atom_one scope (number s n) l (t, w, a, b, c, d, m, s1) = (
+  t,
+  w,
+  a,
+  b,
+  ap (λ o. spec.atom_from t.span o (is_name w) (last_index scope w)) (number_on w c d) ∙ (λ i. Some (number (sym s1 i) (sym m i))),
+  inl c,
+)
 atom_one scope (variable s k) l (t, w, a, b, c, s1) =
     let p = name_number w b.1 in
     let q = name_same w ∙ b.1 in
@@ -86,7 +89,7 @@ module _ {A : Type 0} (p : List A → Parser A) (P : A → Tokens → Type 0) (Q
       let n2 : length after ≡ suc (length us) = ap length e2 in
       let k = more us (omega arith) list in
       ap (spec.list_from p (suc n) xs) e3 ∙ one n xs z item (comma ∷ (us ++ rest)) h q
-          ∙ rw (starts_on Comma comma (us ++ rest) m) (k ∙ ap (λ ys. Some (ys, rest)) (append_assoc xs (z ∷ []) zs))
+      ∙ rw (starts_on Comma comma (us ++ rest) m) (k ∙ ap (λ ys. Some (ys, rest)) (append_assoc xs (z ∷ []) zs))
 
   pub list_on : (n : ℕ) (xs zs : List A) (l rest : Tokens) → IsList P zs l → Chain Q xs zs → spec.starts Close rest ≡ true → length l < n →
       spec.list_from p n xs (l ++ rest) ≡ Some (xs ++ zs, rest)
@@ -105,7 +108,7 @@ arguments_on : (scope : Scope) (args : List Expr) (l rest : Tokens) → IsList (
 unfolding spec.arguments
 arguments_on scope args l rest h r =
     list_on (λ xs. spec.atom scope) (IsAtom scope) (λ xs x. Unit {0}) (λ xs x l rest k u. atom_on scope x l rest k) (λ x l rest k. atom_starts scope x l rest k)
-        (λ x l k. atom_length scope x l k) (length (l ++ rest)) [] args l rest h (chain_all [] args) r (longer l rest (close_length rest r))
+    (λ x l k. atom_length scope x l k) (length (l ++ rest)) [] args l rest h (chain_all [] args) r (longer l rest (close_length rest r))
 
 -- ---- terms
 
@@ -125,7 +128,7 @@ call_on fs scope apart s f args l rest (t, o, inner, c, w, e, n, m1, m2, fo, ite
     let hi = last_push o inner c in
     let span : spec.joined t.span c.span ≡ s = (λ i. record { lo = t.span.lo; hi = sym hi i }) ∙ sym span0 in
     rw (e1, word_on w t (o ∷ (inner ++ c ∷ rest)) n.0, starts_on Open o (inner ++ c ∷ rest) m1, named, mark_on Open o (inner ++ c ∷ rest) m1, read, mark_on Close c rest m2, found)
-        (λ i. Some (call (span i) f (exprs_same args i), rest))
+    (λ i. Some (call (span i) f (exprs_same args i), rest))
 
 atom_term_on : (fs : List Function) (scope : Scope) (e : Expr) (l rest : Tokens) → IsAtom scope e l → spec.starts Open rest ≡ false → spec.term fs scope (l ++ rest) ≡ Some (e, rest)
 unfolding spec.term
@@ -187,9 +190,9 @@ sum_run fs scope apart (binary s op a b) l (la, p, r, e, o, ia, mp, tb, sp) m re
     let n : suc (pluses a) + m ≡ pluses a + suc m = omega arith in
     let sp1 : SpanOf s (la ++ p ∷ r) = subst (SpanOf s) e sp in
     (λ i. and_then (spec.term fs scope (e1 i)) (λ x us. spec.sum_from fs scope (n i) x us))
-        ∙ sum_run fs scope apart a la ia (suc m) (p ∷ (r ++ rest)) (starts_other Open Plus p (r ++ rest) mp refl)
-        ∙ next_run fs scope apart s a b la p r sp1 (sum_span fs scope a la ia) mp tb m rest q
-        ∙ ap (λ x. spec.sum_from fs scope m (binary s x a b) rest) (sym o)
+    ∙ sum_run fs scope apart a la ia (suc m) (p ∷ (r ++ rest)) (starts_other Open Plus p (r ++ rest) mp refl)
+    ∙ next_run fs scope apart s a b la p r sp1 (sum_span fs scope a la ia) mp tb m rest q
+    ∙ ap (λ x. spec.sum_from fs scope m (binary s x a b) rest) (sym o)
 
 one_token : (l : Tokens) (t : Token) → l ≡ t ∷ [] → 0 < length l
 one_token l t e = let n : length l ≡ 1 = ap length e in omega arith
@@ -215,8 +218,8 @@ sum_on fs scope apart e l rest h q r =
     let m = length (l ++ rest) - suc (pluses e) in
     let n : length (l ++ rest) ≡ pluses e + suc (length (l ++ rest) - suc (pluses e)) = omega (arith, length-append l rest, k) in
     ap (λ j. and_then (spec.term fs scope (l ++ rest)) (λ a us. spec.sum_from fs scope j a us)) n
-        ∙ sum_run fs scope apart e l h (suc (length (l ++ rest) - suc (pluses e))) rest q
-        ∙ ended fs scope (length (l ++ rest) - suc (pluses e)) e rest r
+    ∙ sum_run fs scope apart e l h (suc (length (l ++ rest) - suc (pluses e))) rest q
+    ∙ ended fs scope (length (l ++ rest) - suc (pluses e)) e rest r
 
 pub value_on : (fs : List Function) (scope : Scope) → OneEach fs → (e : Expr) (l rest : Tokens) → IsSum fs scope e l → begins_with_number e ≡ false →
     spec.starts Open rest ≡ false → spec.starts Plus rest ≡ false → spec.value fs scope (l ++ rest) ≡ Some (e, rest)

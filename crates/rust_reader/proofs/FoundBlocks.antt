@@ -1,30 +1,28 @@
 -- Each statement, body, function and program of the grammar is what the readers give.
-use Rattle.std.proofs.Common.{◌≡◌, ℕ, zero, suc, ◌+◌, ◌-◌, ◌<◌, ◌≤◌, Bool, true, false, not, if◌then◌else◌, List, [], ◌∷◌, ◌++◌, length, map, take, slice_get, Option, Some, None, is_some, refl, sym, ap, subst, ◌∙◌, ◌⊎◌, inl, inr, codes, append_assoc, arith, length-append, Contains}
+use Rattle.std.proofs.Common.{◌≡◌, ℕ, zero, suc, ◌+◌, ◌<◌, ◌≤◌, true, false, List, [], ◌∷◌, ◌++◌, length, take, slice_get, Option, Some, refl, sym, ap, subst, ◌∙◌, ◌⊎◌, inl, inr, codes, append_assoc, arith, length-append, Contains}
 use Rattle.std.proofs.lemmas.List.{append-nil, length-take-le, take_all}
 use Rattle.std.proofs.lemmas.Option.{slice_get_within}
-use Rattle.aen_base.specs.declared.span.Span.{Span}
 use Rattle.rust_ast.specs.Tree.{Expr, Stmt, bind, Stmts, more_stmts, no_stmts, stmts, stmts_list, Block, block, MaybeExpr, some_maybeexpr, no_maybeexpr}
 use Rattle.rust_ast.specs.declared.function.Function.{Function}
-use Rattle.source_meaning.specs.declared.token.Mark.TheVariants.{Open, Close, OpenBrace, CloseBrace, Comma, Colon, Semicolon, Equals, Plus, Arrow}
+use Rattle.source_meaning.specs.declared.token.Mark.TheVariants.{Open, Close, OpenBrace, CloseBrace, Colon, Semicolon, Equals, Plus, Arrow}
 use Rattle.source_meaning.specs.declared.token.Token.{Token}
 use Rattle.source_meaning.specs.Scope.{AreDistinct}
-use Rattle.source_meaning.specs.Grammar.{IsMark, IsWord, IsName, IsList, IsSum, SpanOf, last_end, begins_with_number, IsStmt, IsBody, IsBlock, IsParameter, IsFunction, AreFunctions}
+use Rattle.source_meaning.specs.Grammar.{IsMark, IsList, IsSum, SpanOf, IsStmt, IsBody, IsBlock, IsParameter, IsFunction, AreFunctions}
 use Rattle.rust_reader.specs.declared.statements.Binding.{Binding}
 use Rattle.rust_reader.specs.declared.statements.Bindings.{Bindings}
 use Rattle.rust_reader.specs.declared.statements.Body.{Body}
-use Rattle.rust_reader.specs.Words.{is_name}
-use Rattle.rust_reader.specs.Lookup.{last_index, names}
-use Rattle.rust_reader.specs.Parser.{Tokens, Parser, and_then, tail}
+use Rattle.rust_reader.specs.Lookup.{names}
+use Rattle.rust_reader.specs.Parser.{Tokens}
 use Rattle.rust_reader.specs.Parse as spec
 use Rattle.rust_reader.specs.Parse.{Scope}
-use Rattle.rust_reader.proofs.Tokens.{at, mark_on, keyword_on, name_on, name_same, starts_on, starts_other, starts_word, starts_keyword_ok}
+use Rattle.rust_reader.proofs.Tokens.{at, mark_on, keyword_on, name_on, starts_on, starts_other, starts_word, starts_keyword_ok}
 use Rattle.rust_reader.proofs.Indices.{absent_on, OneEach}
-use Rattle.rust_reader.proofs.Sound.{Chain, last_push}
+use Rattle.rust_reader.proofs.Sound.{last_push}
 use Rattle.rust_reader.proofs.Lookups.{names-append}
 use Rattle.rust_reader.proofs.Distinct.{Fresh, contains_absent, get_contains, distinct_chain, none_before}
 use Rattle.rust_reader.proofs.Blocks.{after_span, function_of}
 use Rattle.rust_reader.proofs.Places.{take_next}
-use Rattle.rust_reader.proofs.Found.{list_on, longer, sum_on, sum_span, span_same, value_on, sum_let}
+use Rattle.rust_reader.proofs.Found.{list_on, longer, sum_on, sum_span, value_on, sum_let}
 
 -- ---- statements
 
@@ -48,12 +46,14 @@ binding_on fs apart vars k (bind s v e) l rest (a, t, q, value, z, w, e0, ma, nt
     let hi = after_span a t q value (spec.span_of e) (sum_span fs (take k vars) e value i) in
     let span : spec.joined a.span (spec.span_of e) ≡ s = (λ j. record { lo = a.span.lo; hi = sym hi j }) ∙ sym sp in
     let last : ◌≡◌ {A = Option (Binding × Tokens)} (Some (binding_of w (bind (spec.joined a.span (spec.span_of e)) (length (take k vars)) e), rest)) (Some (binding_of w (bind s v e), rest)) =
-        λ j. Some (binding_of w (bind (span j) ((n ∙ sym vk) j) e), rest) in
-    let long : length l ≡ suc (length (t ∷ q ∷ (value ++ z ∷ []))) = ap length e0 in
-    (w, at_,
-        rw (e1, keyword_on (codes "let") a (t ∷ q ∷ (value ++ z ∷ rest)) ma, name_on w t (q ∷ (value ++ z ∷ rest)) nt, mark_on Equals q (value ++ z ∷ rest) mq, read, mark_on Semicolon z rest mz) last,
-        ap (spec.starts_keyword (codes "let")) e1 ∙ starts_keyword_ok (codes "let") a (t ∷ q ∷ (value ++ z ∷ rest)) ma,
-        omega arith)
+    λ j. Some (binding_of w (bind (span j) ((n ∙ sym vk) j) e), rest) in
+    let long : length l ≡ suc (length (t ∷ q ∷ (value ++ z ∷ []))) = ap length e0 in (
+      w,
+      at_,
+      rw (e1, keyword_on (codes "let") a (t ∷ q ∷ (value ++ z ∷ rest)) ma, name_on w t (q ∷ (value ++ z ∷ rest)) nt, mark_on Equals q (value ++ z ∷ rest) mq, read, mark_on Semicolon z rest mz) last,
+      ap (spec.starts_keyword (codes "let")) e1 ∙ starts_keyword_ok (codes "let") a (t ∷ q ∷ (value ++ z ∷ rest)) ma,
+      omega arith,
+    )
 
 abbrev Bodied : List Function → Scope → ℕ → ℕ → List Stmt → Stmts → MaybeExpr → Tokens → Tokens → Type 0
 Bodied fs vars k n acc sts last ts rest = (e : Expr) × (le : Tokens) × (last ≡ some_maybeexpr e) × IsSum fs vars e le
@@ -84,7 +84,7 @@ bindings_on fs apart vars k (suc n) acc no_stmts no_maybeexpr ts rest h b = absu
 bindings_on fs apart vars k (suc n) acc no_stmts (some_maybeexpr e) ts rest (h, i) b = last_on_ fs apart vars k n acc e ts rest h i
 bindings_on fs apart vars k (suc n) acc (more_stmts st sts) last ts rest (l, r, e, s, body) b =
     let_on fs apart vars k n acc st sts last ts l r rest e (binding_on fs apart vars k st l (r ++ rest) s)
-        (λ c. bindings_on fs apart vars (k + 1) n (acc ++ st ∷ []) sts last r rest body (omega arith))
+    (λ c. bindings_on fs apart vars (k + 1) n (acc ++ st ∷ []) sts last r rest body (omega arith))
 
 stmts_same : (ss : Stmts) → stmts (stmts_list ss) ≡ ss
 stmts_same no_stmts = refl
@@ -105,7 +105,7 @@ body_on fs apart vars k (block s sts last) l rest (o, inner, c, e, mo, mc, body,
     let hi = last_push o inner c in
     let span : spec.joined o.span c.span ≡ s = (λ j. record { lo = o.span.lo; hi = sym hi j }) ∙ sym sp0 in
     rw (e1, mark_on OpenBrace o (inner ++ c ∷ rest) mo, run, sum, mark_on CloseBrace c rest mc)
-        (λ j. Some (body_of vars (block (span j) (stmts_same sts j) (sym p j)), rest))
+    (λ j. Some (body_of vars (block (span j) (stmts_same sts j) (sym p j)), rest))
 
 -- ---- parameters
 
@@ -129,7 +129,7 @@ parameters_on : (ps : Scope) (l : Tokens) (c : Token) (rest : Tokens) → IsList
 unfolding spec.parameters
 parameters_on ps l c rest h d m =
     list_on spec.fresh_parameter IsParameter Fresh fresh_on parameter_starts parameter_length (length (l ++ c ∷ rest)) [] ps l (c ∷ rest) h
-        (distinct_chain [] ps d (none_before ps)) (starts_on Close c rest m) (longer l (c ∷ rest) (omega arith))
+    (distinct_chain [] ps d (none_before ps)) (starts_on Close c rest m) (longer l (c ∷ rest) (omega arith))
 
 -- ---- functions
 
@@ -138,17 +138,26 @@ unfolding spec.function spec.signature
 function_on fs apart f l rest (a, t, o, inner, c, r, y, body, e, ma, nt, st, mo, mc, mr, my, within, list, distinct, it, new) =
     let ps = take f.parameters f.variables in
     let e1 : l ++ rest ≡ a ∷ t ∷ o ∷ (inner ++ c ∷ r ∷ y ∷ (body ++ rest)) =
-        ap (λ vs. vs ++ rest) e ∙ ap (λ vs. a ∷ t ∷ o ∷ vs) (append_assoc inner (c ∷ r ∷ y ∷ body) rest) in
+    ap (λ vs. vs ++ rest) e ∙ ap (λ vs. a ∷ t ∷ o ∷ vs) (append_assoc inner (c ∷ r ∷ y ∷ body) rest) in
     let absent = absent_on (names fs) f.name (contains_absent (names fs) f.name new) in
     let read = parameters_on (take f.parameters f.variables) inner c (r ∷ y ∷ (body ++ rest)) list distinct mc in
     let read_body = body_on fs apart f.variables f.parameters f.body body rest it in
     let n : length (take f.parameters f.variables) ≡ f.parameters = length-take-le f.parameters f.variables within in
     let same : function_of (at f.name t) (take f.parameters f.variables) (body_of f.variables f.body) ≡ f =
-        λ j. record { name = f.name; span = sym st j; parameters = n j; variables = f.variables; body = f.body } in
-    rw (e1, keyword_on (codes "fn") a (t ∷ o ∷ (inner ++ c ∷ r ∷ y ∷ (body ++ rest))) ma, name_on f.name t (o ∷ (inner ++ c ∷ r ∷ y ∷ (body ++ rest))) nt, absent,
-            mark_on Open o (inner ++ c ∷ r ∷ y ∷ (body ++ rest)) mo, read, mark_on Close c (r ∷ y ∷ (body ++ rest)) mc, mark_on Arrow r (y ∷ (body ++ rest)) mr,
-            keyword_on (codes "u32") y (body ++ rest) my, read_body)
-        (ap (λ g. Some (g, rest)) same)
+    λ j. record { name = f.name; span = sym st j; parameters = n j; variables = f.variables; body = f.body } in
+    rw (
+      e1,
+      keyword_on (codes "fn") a (t ∷ o ∷ (inner ++ c ∷ r ∷ y ∷ (body ++ rest))) ma,
+      name_on f.name t (o ∷ (inner ++ c ∷ r ∷ y ∷ (body ++ rest))) nt,
+      absent,
+      mark_on Open o (inner ++ c ∷ r ∷ y ∷ (body ++ rest)) mo,
+      read,
+      mark_on Close c (r ∷ y ∷ (body ++ rest)) mc,
+      mark_on Arrow r (y ∷ (body ++ rest)) mr,
+      keyword_on (codes "u32") y (body ++ rest) my,
+      read_body,
+    )
+    (ap (λ g. Some (g, rest)) same)
 
 push_get : (xs : List (List ℕ)) (x w : List ℕ) (i : ℕ) → slice_get (xs ++ x ∷ []) i ≡ Some w → (slice_get xs i ≡ Some w) ⊎ ((i ≡ length xs) × (x ≡ w))
 push_get [] x w zero h = inr (refl, cc)
@@ -171,7 +180,7 @@ one_more : (fs : List Function) (f : Function) → OneEach fs → (Contains (nam
 one_more fs f apart new w i j h k =
     let e = names-append fs f in
     one_by (names fs) f.name w i j new (apart w i j)
-        (push_get (names fs) f.name w i (ap (λ ns. slice_get ns i) (sym e) ∙ h)) (push_get (names fs) f.name w j (ap (λ ns. slice_get ns j) (sym e) ∙ k))
+    (push_get (names fs) f.name w i (ap (λ ns. slice_get ns i) (sym e) ∙ h)) (push_get (names fs) f.name w j (ap (λ ns. slice_get ns j) (sym e) ∙ k))
 
 function_length : (fs : List Function) (f : Function) (l r : Tokens) → IsFunction fs f l → (t : Token) × (us : Tokens) × (l ++ r ≡ t ∷ us)
 function_length fs f l rest (a, t, o, inner, c, r, y, body, e, ma, nt, st, mo, mc, mr, my, within, list, distinct, it, new) = (a, (t ∷ o ∷ (inner ++ c ∷ r ∷ y ∷ body)) ++ rest, ap (λ vs. vs ++ rest) e)
@@ -198,7 +207,7 @@ functions_on fs apart (suc n) (f ∷ gs) ts (l, r, e, h, more) b =
     let long : length ts ≡ length l + length r = ap length e ∙ length-append l r in
     let some : length l ≡ suc (length us) = ap length (sym (append-nil l) ∙ p) in
     ap (spec.functions_from (suc n) fs) e
-        ∙ next_on fs apart n f gs l r h (functions_on (fs ++ f ∷ []) (one_more fs f apart h.20) n gs r more (omega arith))
+    ∙ next_on fs apart n f gs l r h (functions_on (fs ++ f ∷ []) (one_more fs f apart h.20) n gs r more (omega arith))
 
 none_first : OneEach []
 none_first w i j h k = cc

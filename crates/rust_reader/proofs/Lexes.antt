@@ -1,5 +1,5 @@
 -- What the scan of a text gives is the text's tokens, and the only ones.
-use Rattle.std.proofs.Common.{◌≡◌, ℕ, ◌+◌, ◌==◌, Bool, true, false, not, ◌&&◌, ◌||◌, if◌then◌else◌, List, [], ◌∷◌, ◌++◌, length, Option, Some, None, refl, sym, ap, subst, ◌∙◌, add-zero, append_assoc, arith, codes}
+use Rattle.std.proofs.Common.{◌≡◌, ℕ, ◌+◌, ◌==◌, Bool, true, false, not, ◌&&◌, ◌||◌, if◌then◌else◌, List, [], ◌∷◌, ◌++◌, length, Option, Some, None, refl, sym, ap, subst, ◌∙◌, add-zero, append_assoc, arith}
 use Rattle.std.specs.List.{list_all}
 use Rattle.std.specs.Option.{option_map}
 use Rattle.std.proofs.lemmas.List.{append-nil}
@@ -12,7 +12,7 @@ use Rattle.source_meaning.specs.declared.token.TokenKind.{TokenKind}
 use Rattle.source_meaning.specs.declared.token.TokenKind.TheVariants.{Word, Punct}
 use Rattle.source_meaning.specs.declared.token.Token.{Token}
 use Rattle.source_meaning.specs.Words.{is_space, is_word_char}
-use Rattle.source_meaning.specs.Lexing.{Lexed, Begins, IsToken, ends_word, spelling, mark_text, span_at}
+use Rattle.source_meaning.specs.Lexing.{Lexed, IsToken, ends_word, spelling, mark_text, span_at}
 use Rattle.rust_reader.specs.Scan.{mark_of, token, close, punct, scan, arrow, between}
 
 -- ---- tests
@@ -29,25 +29,31 @@ if_both a b p q = rw (p, q) refl
 space_more : (at c : ℕ) (ts : List Token) (text : List ℕ) → is_space c ≡ true → Lexed (at + 1) ts text → Lexed at ts (c ∷ text)
 space_more at c [] text s h = rw s h
 space_more at c (t ∷ ts) text s (rest, b, l) =
-    let e : at + 1 + length b.gap ≡ at + length (c ∷ b.gap) = omega arith in
-    (rest, record {
-      gap = c ∷ b.gap;
-      spaces = if_both (is_space c) (list_all is_space b.gap) s b.spaces;
-      split = ap (λ r. c ∷ r) b.split;
-      longest = b.longest;
-      place = b.place ∙ ap (λ n. span_at n (length (spelling t.kind))) e;
-    }, l)
+    let e : at + 1 + length b.gap ≡ at + length (c ∷ b.gap) = omega arith in (
+      rest,
+      record {
+        gap = c ∷ b.gap;
+        spaces = if_both (is_space c) (list_all is_space b.gap) s b.spaces;
+        split = ap (λ r. c ∷ r) b.split;
+        longest = b.longest;
+        place = b.place ∙ ap (λ n. span_at n (length (spelling t.kind))) e;
+      },
+      l,
+    )
 
 token_more : (at : ℕ) (k : TokenKind) (ts : List Token) (rest : List ℕ) → IsToken k rest →
     Lexed (at + length (spelling k)) ts rest → Lexed at (token k at (length (spelling k)) ∷ ts) (spelling k ++ rest)
-token_more at k ts rest h l =
-    (rest, record {
-      gap = [];
-      spaces = refl;
-      split = refl;
-      longest = h;
-      place = ap (λ n. span_at n (length (spelling k))) (sym (add-zero at));
-    }, l)
+token_more at k ts rest h l = (
+  rest,
+  record {
+    gap = [];
+    spaces = refl;
+    split = refl;
+    longest = h;
+    place = ap (λ n. span_at n (length (spelling k))) (sym (add-zero at));
+  },
+  l,
+)
 
 close_ok : (lo : ℕ) (w : List ℕ) (ts : List Token) (rest : List ℕ) → list_all is_word_char w ≡ true → ends_word rest ≡ true →
     Lexed (lo + length w) ts rest → Lexed lo (close lo w ts) (w ++ rest)
@@ -126,8 +132,8 @@ mutual
       subst (λ us. Lexed lo us (w ++ [])) e (close_ok lo w [] [] a refl refl)
   scan_ok lo w (c ∷ cs) ts a h =
       char_ok lo w c cs ts (is_word_char c) refl a (λ b k. scan_ok lo (w ++ c ∷ []) cs ts b k)
-          (λ us k. other_ok (lo + length w) c cs us (is_space c) (c == 45) refl refl
-              (λ vs j. scan_ok (lo + length w + 1) [] cs vs refl j) (λ vs j. arrow_ok (lo + length w) cs vs j) k) h
+      (λ us k. other_ok (lo + length w) c cs us (is_space c) (c == 45) refl refl
+      (λ vs j. scan_ok (lo + length w + 1) [] cs vs refl j) (λ vs j. arrow_ok (lo + length w) cs vs j) k) h
 
   pub arrow_ok : (at : ℕ) (cs : List ℕ) (ts : List Token) → arrow at cs ≡ Some ts → Lexed at ts (45 ∷ cs)
   arrow_ok at [] ts h = cc
@@ -145,10 +151,10 @@ no_word c k h e = subst (λ n. is_word_char n ≡ false) (sym (eqb-true c k e)) 
 space_word : (c : ℕ) → is_space c ≡ true → is_word_char c ≡ false
 space_word c h =
     case_or ((c == 32) || (c == 9) || (c == 10)) (c == 13) h
-        (λ h1. case_or ((c == 32) || (c == 9)) (c == 10) h1
-            (λ h2. case_or (c == 32) (c == 9) h2 (no_word c 32 refl) (no_word c 9 refl))
-            (no_word c 10 refl))
-        (no_word c 13 refl)
+    (λ h1. case_or ((c == 32) || (c == 9)) (c == 10) h1
+    (λ h2. case_or (c == 32) (c == 9) h2 (no_word c 32 refl) (no_word c 9 refl))
+    (no_word c 10 refl))
+    (no_word c 13 refl)
 
 none_begun : (lo : ℕ) (o : Option (List Token)) → option_map (close lo []) o ≡ o
 none_begun lo None = refl
@@ -212,6 +218,6 @@ lexed_scan (t ∷ ts) at text (rest, b, l) =
     let after = lexed_scan ts t.span.hi rest l in
     let after1 = subst (λ k. scan k [] rest ≡ Some ts) hi after in
     ap (λ s. scan at [] s) b.split ∙ gap_scan at b.gap (spelling t.kind ++ rest) b.spaces
-        ∙ kind_scan (at + length b.gap) t.kind rest b.longest
-        ∙ ap (λ o. option_map (λ us. token t.kind (at + length b.gap) (length (spelling t.kind)) ∷ us) o) after1
-        ∙ ap (λ u. Some (u ∷ ts)) same
+    ∙ kind_scan (at + length b.gap) t.kind rest b.longest
+    ∙ ap (λ o. option_map (λ us. token t.kind (at + length b.gap) (length (spelling t.kind)) ∷ us) o) after1
+    ∙ ap (λ u. Some (u ∷ ts)) same

@@ -1,24 +1,23 @@
 -- What the readers give is what the grammar says.
-use Rattle.std.proofs.Common.{◌≡◌, ℕ, zero, suc, ◌+◌, ◌<◌, ◌^◌, Bool, true, false, not, if◌then◌else◌, List, [], ◌∷◌, ◌++◌, length, map, take, slice_get, Option, Some, None, refl, sym, ap, subst, ◌∙◌, ◌⊎◌, inl, inr, pos, codes, is_some, append_assoc, arith, add-one}
+use Rattle.std.proofs.Common.{◌≡◌, ℕ, zero, suc, ◌<◌, ◌^◌, Bool, true, false, if◌then◌else◌, List, [], ◌∷◌, ◌++◌, length, Option, Some, None, refl, sym, ap, subst, ◌∙◌, inl, inr, pos, is_some, append_assoc}
 use Rattle.std.proofs.lemmas.List.{append-nil}
 use Rattle.aen_base.specs.declared.span.Span.{Span}
 use Rattle.aen_base.specs.declared.int_ty.IntTy.TheVariants.{U32}
 use Rattle.aen_base.specs.declared.operators.BinOp.TheVariants.{Add}
 use Rattle.aen_base.specs.Arithmetic.{number as number_of}
-use Rattle.rust_ast.specs.Tree.{Expr, number, variable, binary, call, exprs, exprs_list, exprs_back}
+use Rattle.rust_ast.specs.Tree.{Expr, number, variable, binary, call, exprs, exprs_back}
 use Rattle.rust_ast.specs.declared.function.Function.{Function}
 use Rattle.source_meaning.specs.declared.token.Mark.TheVariants.{Open, Close, Comma, Plus}
-use Rattle.source_meaning.specs.declared.token.TokenKind.TheVariants.{Word}
 use Rattle.source_meaning.specs.declared.token.Token.{Token}
-use Rattle.source_meaning.specs.Scope.{IsLast, IsEarlier}
-use Rattle.source_meaning.specs.Grammar.{IsMark, IsWord, IsName, IsList, IsAtom, IsTerm, IsSum, SpanOf, last_end, begins_with_number}
+use Rattle.source_meaning.specs.Scope.{IsEarlier}
+use Rattle.source_meaning.specs.Grammar.{IsWord, IsList, IsAtom, IsTerm, IsSum, SpanOf, last_end, begins_with_number}
 use Rattle.rust_reader.specs.declared.cursor.WordAt.{WordAt}
 use Rattle.rust_reader.specs.Words.{is_name, number_value}
-use Rattle.rust_reader.specs.Lookup.{last_index, names, callee}
-use Rattle.rust_reader.specs.Parser.{Tokens, Parser, and_then, ◌>>=◌, ◌>>◌, pure, known, where_, tail}
+use Rattle.rust_reader.specs.Lookup.{last_index, callee}
+use Rattle.rust_reader.specs.Parser.{Tokens, Parser, and_then, ◌>>=◌, pure, known, tail}
 use Rattle.rust_reader.specs.Parse as spec
 use Rattle.rust_reader.specs.Parse.{Scope}
-use Rattle.rust_reader.proofs.Tokens.{bind_ok, only_if, unless, pair_0, mark_ok, word_ok, name_same, starts_ok, number_ok, name_number, starts_number_is, number_on}
+use Rattle.rust_reader.proofs.Tokens.{bind_ok, only_if, pair_0, mark_ok, word_ok, name_same, starts_ok, number_ok, name_number, starts_number_is, number_on}
 use Rattle.rust_reader.proofs.Indices.{last_ok, callee_ok}
 
 -- ---- spans
@@ -61,19 +60,23 @@ module _ {A : Type 0} (p : List A → Parser A) (P : A → Tokens → Type 0) (Q
   comma_ok n xs ts x us ys rest true e more h k =
       let (item, a, px, q) = ok xs ts x us h in
       let (t, b, m) = starts_ok Comma us e in
-      let (zs, l, c, d, list, chain) = more (tail us) k in
-      (x ∷ zs, item ++ t ∷ l, c ∙ append_assoc xs (x ∷ []) zs,
-          a ∙ ap (λ vs. item ++ vs) (b ∙ ap (λ vs. t ∷ vs) d) ∙ sym (append_assoc item (t ∷ l) rest),
-          (item, t ∷ l, refl, px, inr (t, l, refl, m, list)), (q, chain))
+      let (zs, l, c, d, list, chain) = more (tail us) k in (
+        x ∷ zs,
+        item ++ t ∷ l,
+        c ∙ append_assoc xs (x ∷ []) zs,
+        a ∙ ap (λ vs. item ++ vs) (b ∙ ap (λ vs. t ∷ vs) d) ∙ sym (append_assoc item (t ∷ l) rest),
+        (item, t ∷ l, refl, px, inr (t, l, refl, m, list)),
+        (q, chain),
+      )
   comma_ok n xs ts x us ys rest false e more h k =
       let (item, a, px, q) = ok xs ts x us h in
       let r = pair_0 (xs ++ x ∷ []) ys us rest k in
       (x ∷ [], item, sym r.0, a ∙ ap (λ vs. item ++ vs) r.1, (item, [], sym (append-nil item), px, inl (refl, refl)), (q, tt))
 
-  close_ok : (n : ℕ) (xs : List A) (ts : Tokens) (ys : List A) (rest : Tokens) (test : Bool) → 
+  close_ok : (n : ℕ) (xs : List A) (ts : Tokens) (ys : List A) (rest : Tokens) (test : Bool) →
       ((zs : List A) (vs : Tokens) → spec.list_from p n zs vs ≡ Some (ys, rest) → Got zs vs ys rest) →
       (if test then Some (xs, ts)
-          else and_then (p xs ts) (λ x us. if spec.starts Comma us then spec.list_from p n (xs ++ x ∷ []) (tail us) else Some (xs ++ x ∷ [], us))) ≡ Some (ys, rest) →
+      else and_then (p xs ts) (λ x us. if spec.starts Comma us then spec.list_from p n (xs ++ x ∷ []) (tail us) else Some (xs ++ x ∷ [], us))) ≡ Some (ys, rest) →
       Got xs ts ys rest
   close_ok n xs ts ys rest true more h =
       let r = pair_0 xs ys ts rest h in
@@ -96,12 +99,12 @@ atom_by scope w t e (Some n) b k ho hb hk hw hs h =
     let (d, v, m) = number_ok w.name n ho in
     let p : number w.span (number_of U32 (pos n)) ≡ e = cc in
     let small : IsAtom scope (number w.span (number_of U32 (pos n))) (t ∷ []) =
-        (t, w.name, refl, hw, d, subst (λ k. k < 2 ^ 32) (sym v) m, ap (λ k. number_of U32 (pos k)) (sym v), sym hs) in
+    (t, w.name, refl, hw, d, subst (λ k. k < 2 ^ 32) (sym v) m, ap (λ k. number_of U32 (pos k)) (sym v), sym hs) in
     subst (λ x. IsAtom scope x (t ∷ [])) p small
 atom_by scope w t e None true (Some k) ho hb hk hw hs h =
     let p : variable w.span k ≡ e = cc in
     let v : IsAtom scope (variable w.span k) (t ∷ []) =
-        (t, w.name, refl, (hw, sym (name_same w.name) ∙ hb), last_ok scope w.name k hk, sym hs) in
+    (t, w.name, refl, (hw, sym (name_same w.name) ∙ hb), last_ok scope w.name k hk, sym hs) in
     subst (λ x. IsAtom scope x (t ∷ [])) p v
 atom_by scope w t e None true None ho hb hk hw hs h = cc
 atom_by scope w t e None false k ho hb hk hw hs h = cc
@@ -165,18 +168,20 @@ call_ok fs scope w t us e rest hw hs h =
     let (e6, e7) = pair_0 (call (spec.joined w.span sc) f (exprs args)) e us4 rest h5 in
     let l : Tokens = t ∷ o ∷ (inner ++ c ∷ []) in
     let split : t ∷ us ≡ (t ∷ o ∷ (inner ++ c ∷ [])) ++ rest =
-        ap (λ vs. t ∷ vs) (e1 ∙ ap (λ vs. o ∷ vs) (e2 ∙ ap (λ vs. inner ++ vs) (e3 ∙ ap (λ vs. c ∷ vs) (e5 ∙ e7)) ∙ sym (append_assoc inner (c ∷ []) rest))) in
+    ap (λ vs. t ∷ vs) (e1 ∙ ap (λ vs. o ∷ vs) (e2 ∙ ap (λ vs. inner ++ vs) (e3 ∙ ap (λ vs. c ∷ vs) (e5 ∙ e7)) ∙ sym (append_assoc inner (c ∷ []) rest))) in
     let hi : last_end t (o ∷ (inner ++ c ∷ [])) ≡ sc.hi = last_push o inner c ∙ ap (λ (s : Span). s.hi) s3 in
     let span : SpanOf (spec.joined w.span sc) (t ∷ o ∷ (inner ++ c ∷ [])) =
-        λ i. record { lo = (sym hs i).lo; hi = sym hi i } in
+    λ i. record { lo = (sym hs i).lo; hi = sym hi i } in
     let back = sym (exprs_back args) in
     let found = subst (λ n. IsEarlier fs w.name n f) (ap length back) (callee_ok fs w.name (length args) f e4) in
     let items = subst (λ xs. IsList (IsAtom scope) xs inner) back list in
     let term : IsTerm fs scope (call (spec.joined w.span sc) f (exprs args)) (t ∷ o ∷ (inner ++ c ∷ [])) =
-        (t, o, inner, c, w.name, refl, (hw, sym (name_same w.name) ∙ b), m1, m3, found, items, span) in
-    (t ∷ o ∷ (inner ++ c ∷ []), split,
-        subst (λ x. IsTerm fs scope x (t ∷ o ∷ (inner ++ c ∷ []))) e6 term,
-        subst (λ x. SpanOf (spec.span_of x) (t ∷ o ∷ (inner ++ c ∷ []))) e6 span)
+    (t, o, inner, c, w.name, refl, (hw, sym (name_same w.name) ∙ b), m1, m3, found, items, span) in (
+      t ∷ o ∷ (inner ++ c ∷ []),
+      split,
+      subst (λ x. IsTerm fs scope x (t ∷ o ∷ (inner ++ c ∷ []))) e6 term,
+      subst (λ x. SpanOf (spec.span_of x) (t ∷ o ∷ (inner ++ c ∷ []))) e6 span,
+    )
 
 term_by : (fs : List Function) (scope : Scope) (w : WordAt) (t : Token) (us : Tokens) (e : Expr) (rest : Tokens) (test : Bool) → IsWord w.name t → t.span ≡ w.span →
     (if test then spec.call fs scope w us else known (spec.atom_of scope w) us) ≡ Some (e, rest) → Term fs scope e (t ∷ us) rest
@@ -209,8 +214,8 @@ plus_ok : (fs : List Function) (scope : Scope) (n : ℕ) (a : Expr) (ts : Tokens
     IsSum fs scope a la → SpanOf (spec.span_of a) la →
     ((b : Expr) (us : Tokens) (lb : Tokens) → IsSum fs scope b lb → SpanOf (spec.span_of b) lb → spec.sum_from fs scope n b us ≡ Some (e, rest) → Sum fs scope e (lb ++ us) rest) →
     (if test
-        then and_then (spec.term fs scope (tail ts)) (λ b us. spec.sum_from fs scope n (binary (spec.joined (spec.span_of a) (spec.span_of b)) Add a b) us)
-        else Some (a, ts)) ≡ Some (e, rest) → Sum fs scope e (la ++ ts) rest
+    then and_then (spec.term fs scope (tail ts)) (λ b us. spec.sum_from fs scope n (binary (spec.joined (spec.span_of a) (spec.span_of b)) Add a b) us)
+    else Some (a, ts)) ≡ Some (e, rest) → Sum fs scope e (la ++ ts) rest
 plus_ok fs scope n a ts e rest la true st ia sa more h =
     let (b, us, h1, h2) = bind_ok (spec.term fs scope (tail ts)) (λ b us. spec.sum_from fs scope n (binary (spec.joined (spec.span_of a) (spec.span_of b)) Add a b) us) (e, rest) h in
     let (p, e1, m) = starts_ok Plus ts st in

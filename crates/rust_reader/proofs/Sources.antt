@@ -1,5 +1,5 @@
 -- A source's program is what the reader answers.
-use Rattle.std.proofs.Common.{◌≡◌, ℕ, List, [], Option, Some, None, Result, Ok, Err, IfOk, refl, sym, ap, subst, ◌∙◌}
+use Rattle.std.proofs.Common.{◌≡◌, ℕ, List, [], Option, Some, None, Result, Ok, Err, IfOk, refl, ap, subst, ◌∙◌}
 use Rattle.std.specs.Result.{IsErrAnd}
 use Rattle.rust_ast.specs.declared.function.Function.{Function}
 use Rattle.rust_ast.specs.declared.function.Program.{Program}

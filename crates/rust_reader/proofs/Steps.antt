@@ -1,5 +1,5 @@
 -- A word that is closed before the next byte.
-use Rattle.std.proofs.Common.{◌≡◌, ℕ, ◌+◌, Bool, true, false, List, [], ◌∷◌, ◌++◌, length, Option, Some, None, Result, Ok, Err, refl, sym, ap, subst, ◌∙◌, append-nil, append_assoc}
+use Rattle.std.proofs.Common.{◌≡◌, ℕ, ◌+◌, Bool, false, List, [], ◌∷◌, ◌++◌, length, Option, Some, None, Result, Ok, Err, refl, sym, subst, ◌∙◌, append-nil, append_assoc}
 use Rattle.std.specs.Option.{option_map}
 use Rattle.std.proofs.lemmas.List.{append-nil}
 use Rattle.source_meaning.specs.declared.token.Token.{Token}
@@ -7,7 +7,7 @@ use Rattle.source_meaning.specs.Words.{is_word_char}
 use Rattle.rust_reader.specs.declared.fault.ReadFault.{ReadFault}
 use Rattle.rust_reader.specs.declared.fault.ReadFault.TheVariants.{Syntax, Memory}
 use Rattle.std.specs.Result.{IsErrAnd}
-use Rattle.rust_reader.specs.Scan.{close, scan, between, from, prepend, Steps, Gets}
+use Rattle.rust_reader.specs.Scan.{close, between, from, prepend, Steps, Gets}
 
 pub close_then : (ts : List Token) (lo : ℕ) (w : List ℕ) (o : Option (List Token)) →
     prepend ts (option_map (close lo w) o) ≡ prepend (ts ++ close lo w []) o

@@ -1,5 +1,5 @@
 -- What each reader of single tokens gives, and that it gives it.
-use Rattle.std.proofs.Common.{◌≡◌, ℕ, ◌+◌, ◌*◌, ◌-◌, ◌<◌, ◌≤◌, ◌^◌, Bool, true, false, not, ◌&&◌, ◌||◌, ◌==◌, nat_le, if◌then◌else◌, List, [], ◌∷◌, ◌++◌, length, Option, Some, None, refl, sym, ap, subst, ◌∙◌, nat_lt, pos, codes, is_some, arith}
+use Rattle.std.proofs.Common.{◌≡◌, ℕ, ◌+◌, ◌*◌, ◌-◌, ◌<◌, ◌≤◌, ◌^◌, Bool, true, false, not, ◌&&◌, ◌||◌, ◌==◌, nat_le, if◌then◌else◌, List, [], ◌∷◌, Option, Some, None, refl, sym, ap, subst, ◌∙◌, nat_lt, codes, is_some, arith}
 use Rattle.std.specs.List.{list_all, list_any}
 use Rattle.std.proofs.lemmas.Bool.{eqb-true, ltb-true, lt-ltb, leb-true}
 use Rattle.std.proofs.lemmas.Bool.Decides.{nat_tests}
@@ -212,10 +212,10 @@ above c h = grind (arith, nat_tests)
 letter_digit : (c : ℕ) → is_letter c ≡ true → is_digit c ≡ false
 letter_digit c h =
     case_or ((nat_le 97 c && nat_le c 122) || (nat_le 65 c && nat_le c 90)) (c == 95) h
-        (λ h1. case_or (nat_le 97 c && nat_le c 122) (nat_le 65 c && nat_le c 90) h1
-            (λ h2. above c (omega (arith, lower 97 c (both (nat_le 97 c) (nat_le c 122) h2).0)))
-            (λ h2. above c (omega (arith, lower 65 c (both (nat_le 65 c) (nat_le c 90) h2).0))))
-        (λ e. let k = eqb-true c 95 e in above c (omega arith))
+    (λ h1. case_or (nat_le 97 c && nat_le c 122) (nat_le 65 c && nat_le c 90) h1
+    (λ h2. above c (omega (arith, lower 97 c (both (nat_le 97 c) (nat_le c 122) h2).0)))
+    (λ h2. above c (omega (arith, lower 65 c (both (nat_le 65 c) (nat_le c 90) h2).0))))
+    (λ e. let k = eqb-true c 95 e in above c (omega arith))
 
 front : (a b c d e : Bool) → (a && b && c && d && e) ≡ true → a ≡ true
 front true b c d e h = refl

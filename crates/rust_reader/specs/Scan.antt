@@ -44,9 +44,9 @@ abbrev mutual
   scan lo w (c ∷ cs) =
       if is_word_char c then scan lo (w ++ c ∷ []) cs
       else option_map (close lo w)
-          (if is_space c then scan (lo + length w + 1) [] cs
-          else (if c == 45 then arrow (lo + length w) cs
-          else punct (lo + length w) (mark_of c) (scan (lo + length w + 1) [] cs)))
+      (if is_space c then scan (lo + length w + 1) [] cs
+      else (if c == 45 then arrow (lo + length w) cs
+      else punct (lo + length w) (mark_of c) (scan (lo + length w + 1) [] cs)))
 
   pub arrow : ℕ → List ℕ → Option (List Token)
   arrow at [] = None

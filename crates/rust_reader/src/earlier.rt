@@ -2,7 +2,6 @@
 
 ghost use Rattle.std.specs.Prelude.{◌≡◌, [], ◌∷◌, ◌++◌, length, is_some, IfOk};
 ghost use Rattle.rust_reader.specs.Lookup as spec;
-
 ghost use Rattle.rust_reader.specs.declared.fault.ReadFault.TheVariants.{Syntax};
 
 use crate::ReadFault;
@@ -95,7 +94,10 @@ impl Earlier {
     pub(crate) fn into_functions(self) -> List<Function>
         ensures { result ≡ self }
     {
-        let Earlier { functions, table: _table } = self;
+        let Earlier {
+            functions,
+            table: _table,
+        } = self;
         functions
     }
 }

@@ -2,7 +2,6 @@
 
 ghost use Rattle.std.specs.Prelude.{◌≡◌, [], ◌∷◌, ◌++◌, length, IfOk};
 ghost use Rattle.rust_reader.specs.Lookup as spec;
-
 ghost use Rattle.rust_reader.specs.declared.fault.ReadFault.TheVariants.{Syntax};
 
 use crate::ReadFault;
@@ -85,7 +84,10 @@ impl Scope {
     pub(crate) fn into_names(self) -> List<Name>
         ensures { result ≡ self }
     {
-        let Scope { names, table: _table } = self;
+        let Scope {
+            names,
+            table: _table,
+        } = self;
         names
     }
 }

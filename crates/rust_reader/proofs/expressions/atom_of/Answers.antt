@@ -1,8 +1,5 @@
-use Rattle.std.proofs.Common.{◌≡◌, sym, ◌∙◌, ℕ, ◌<◌, ◌^◌, pos, if◌then◌else◌, Option, Some, None, true, arith}
-use Rattle.aen_base.specs.Numbers.{Number, in_range}
-use Rattle.aen_base.specs.Arithmetic.{number}
-use Rattle.aen_base.specs.declared.int_ty.IntTy.TheVariants.{U32}
-use Rattle.rust_reader.proofs.Lookups.{u32_fits, never_none}
+use Rattle.std.proofs.Common.{◌<◌, ◌^◌, arith}
+use Rattle.rust_reader.proofs.Lookups.{never_none}
 use Rattle.rust_reader.proofs.expressions.atom_of.Goals as goal
 
 pub returns-in_default-num : goal.returns-in_default-num

@@ -1,4 +1,4 @@
-use Rattle.std.proofs.Common.{◌≡◌, ◌<◌, ◌^◌, [], drop}
+use Rattle.std.proofs.Common.{◌≡◌, [], drop}
 use Rattle.std.specs.String.{string_bytes}
 use Rattle.rust_reader.specs.Scan as spec
 use Rattle.rust_reader.proofs.lexer.lex.Given as goal

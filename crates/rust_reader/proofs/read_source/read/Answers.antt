@@ -1,6 +1,4 @@
-use Rattle.std.proofs.Common.{◌≡◌, ap, sym, ◌∙◌, Some, Ok}
-use Rattle.rust_reader.specs.Parse.{whole}
-use Rattle.rust_reader.specs.Scan.{Gets}
+use Rattle.std.proofs.Common.{ap, sym, ◌∙◌, Some}
 use Rattle.rust_reader.proofs.Sources.{read_clause, only_clause, typed_clause, refused_clause, refused_text}
 use Rattle.rust_reader.proofs.read_source.read.Goals as goal
 
