@@ -1,0 +1,15 @@
+pub mod Named
+pub mod Steps
+pub mod Turns
+pub mod Lookups
+pub mod Lexes
+pub mod Tokens
+pub mod Indices
+pub mod Sound
+pub mod Places
+pub mod Distinct
+pub mod Blocks
+pub mod Found
+pub mod FoundBlocks
+pub mod Typed
+pub mod Sources

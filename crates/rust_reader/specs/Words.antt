@@ -1,0 +1,41 @@
+-- The words in groups, and the value of a number.
+use Rattle.std.specs.Prelude.{ℕ, ◌+◌, ◌-◌, ◌*◌, ◌^◌, Bool, List, [], ◌∷◌, Option, Some, None, if◌then◌else◌, nat_lt, take, drop}
+use Rattle.std.specs.List.{list_any}
+use Rattle.std.specs.Str.{bytes_eq}
+use Rattle.source_meaning.specs.Words.{words, excluded_words, is_digit, is_name as is_name_of}
+
+unfoldable pub is_keyword : List ℕ → Bool
+is_keyword w = list_any (bytes_eq w) (take 18 words)
+
+unfoldable pub is_type_word : List ℕ → Bool
+is_type_word w = list_any (bytes_eq w) (drop 18 words)
+
+unfoldable pub is_excluded_to_gen : List ℕ → Bool
+is_excluded_to_gen w = list_any (bytes_eq w) (take 16 excluded_words)
+
+unfoldable pub is_excluded_to_super : List ℕ → Bool
+is_excluded_to_super w = list_any (bytes_eq w) (take 14 (drop 16 excluded_words))
+
+unfoldable pub is_excluded_to_yield : List ℕ → Bool
+is_excluded_to_yield w = list_any (bytes_eq w) (drop 14 (drop 16 excluded_words))
+
+unfoldable pub is_word : List ℕ → Bool
+is_word w = list_any (bytes_eq w) words
+
+unfoldable pub is_excluded : List ℕ → Bool
+is_excluded w = list_any (bytes_eq w) excluded_words
+
+unfoldable pub is_name : List ℕ → Bool
+is_name w = is_name_of w
+
+-- the number that digits write after the digits that were read, if it is below 2^32
+abbrev pub number_from : ℕ → List ℕ → Option ℕ
+number_from n [] = Some n
+number_from n (c ∷ cs) =
+    if is_digit c
+    then (if nat_lt (n * 10 + (c - 48)) (2 ^ 32) then number_from (n * 10 + (c - 48)) cs else None)
+    else None
+
+abbrev pub number_value : List ℕ → Option ℕ
+number_value [] = None
+number_value (c ∷ cs) = number_from 0 (c ∷ cs)
