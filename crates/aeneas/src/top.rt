@@ -1,0 +1,24 @@
+ghost use Rattle.std.specs.Prelude.{◌≡◌, ℕ, List, [], map};
+ghost use Rattle.std.specs.String.{string_bytes};
+ghost use Rattle.aen_io.specs.Written.{WritesAll};
+ghost use Rattle.aeneas.specs.Words.{IsTranslate};
+ghost use Rattle.aeneas.specs.Answer.{Answers, Translates};
+
+use crate::reply::reply_to;
+use aen_io::{Files, Sink, write_all};
+use std::alloc::Global;
+
+/// The program: does what the words say, writes the reply to `out`, and answers the status.
+pub fn aeneas<F: Files, K: Sink>(alloc: Global, words: &[String], files: &mut F, out: &mut K) -> u8
+    ensures answer { Answers (map string_bytes words.now) (F.told files.old) (F.faults files.old) (F.faults files.new) (K.written out.old) (K.written out.new) (K.faults out.old) (K.faults out.new) result }
+    ensures headline { result ≡ 0 → (file : List ℕ) → IsTranslate (map string_bytes words.now) file → Translates (F.told files.old) file (K.written out.old) (K.written out.new) }
+    ensures kept { F.told files.new ≡ F.told files.old }
+{
+    let Ok(reply) = reply_to(alloc, words, files) else {
+        return 99;
+    };
+    match write_all(out, reply.text.as_bytes()) {
+        Ok(()) => reply.status,
+        Err(_) => 3,
+    }
+}
