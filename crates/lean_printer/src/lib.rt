@@ -5,6 +5,7 @@ mod bare;
 mod code;
 mod declarations;
 mod definitions;
+mod lemmas;
 mod names;
 mod put;
 mod terms;
@@ -13,9 +14,10 @@ mod tests;
 mod types;
 mod words;
 
-ghost use Rattle.std.specs.Prelude.{◌≡◌, IfOk};
+ghost use Rattle.std.specs.Prelude.{◌≡◌, ◌++◌, IfOk, OnOk, string_bytes};
 ghost use Rattle.text_meaning.specs.Reading.{ReadsText};
-ghost use Rattle.text_meaning.specs.Shown.{shown};
+ghost use Rattle.text_meaning.specs.Shown.{header, shown};
+ghost use Rattle.text_meaning.specs.ShownLemmas.{shown_lemmas};
 ghost use Rattle.text_meaning.specs.WellFormed.{IsWellFormed};
 
 use aen_base::{NoMem, Text};
@@ -30,8 +32,25 @@ pub fn print(alloc: Global, defs: &Defs) -> Result<Text, NoMem>
     ensures read_back { IsWellFormed defs.now → ReadsText (shown defs.now) defs.now }
 {
     let mut out = String::new(alloc);
-    put(&mut out, "import AenPrelude\nopen AenPrelude\n")?;
+    put_header(&mut out)?;
     declarations::put_declarations(&mut out, defs)?;
     definitions::put_definitions(&mut out, defs)?;
+    Ok(Text::new(out))
+}
+
+fn put_header(out: &mut String) -> Result<(), NoMem>
+    ensures { OnOk result (string_bytes out.new ≡ string_bytes out.old ++ header) }
+{
+    put(out, "import AenPrelude\nopen AenPrelude\n")
+}
+
+/// The lemma templates of the definitions, in time linear in the text's length. The only error is
+/// want of memory.
+pub fn print_lemmas(alloc: Global, defs: &Defs) -> Result<Text, NoMem>
+    ensures { IfOk result (λ t. t ≡ shown_lemmas defs.now) }
+{
+    let mut out = String::new(alloc);
+    put_header(&mut out)?;
+    lemmas::put_lemmas(&mut out, defs)?;
     Ok(Text::new(out))
 }

@@ -1,5 +1,5 @@
 //! Texts as the language's description gives them.
-use crate::print;
+use crate::{print, print_lemmas};
 use aen_base::{BinOp, FnId, IntTy, List, Name, NoMem, RegionId, num};
 use pure_ast::{Code, Comp, Def, DefKind, Defs, PTy, Pat, Primitive, Term};
 use std::alloc::Global;
@@ -56,7 +56,7 @@ fn choose(alloc: Global) -> Result<Defs, NoMem> {
     one_def(alloc, "choose", def)
 }
 
-fn sum(alloc: Global, one: Term) -> Result<Defs, NoMem> {
+fn sum(alloc: Global, name: &str, one: Term) -> Result<Defs, NoMem> {
     let mut params = List::new(alloc);
     params.push(PTy::int(IntTy::U32))?;
     let parts = two_terms(alloc, Term::var(0), one)?;
@@ -68,7 +68,7 @@ fn sum(alloc: Global, one: Term) -> Result<Defs, NoMem> {
         result: PTy::int(IntTy::U32),
         code: Code::bind(alloc, 1, comp, Code::last(Comp::Ok(Term::var(1))))?,
     };
-    one_def(alloc, "é", def)
+    one_def(alloc, name, def)
 }
 
 #[test]
@@ -84,10 +84,21 @@ fn a_backward_definition(rt: HostRuntime) -> Result<(), Fail> {
 #[test]
 fn a_bind_and_a_name_between_marks(rt: HostRuntime) -> Result<(), Fail> {
     let one = num(IntTy::U32, false, 1).ok_or("1 is a U32")?;
-    let text = print(rt.alloc(), &sum(rt.alloc(), Term::literal(one))?)?;
+    let text = print(rt.alloc(), &sum(rt.alloc(), "é", Term::literal(one))?)?;
     assert_eq!(rt;
         text.as_str(),
         "import AenPrelude\nopen AenPrelude\n\ndef fn.«é» (n : Nat) (v0 : U32) : Result U32 :=\n  match n with\n  | 0 => outOfFuel\n  | n + 1 => do\n    let v1 ← U32.add v0 1#U32;\n    ok v1\n"
+    );
+    Ok(())
+}
+
+#[test]
+fn a_lemma_template(rt: HostRuntime) -> Result<(), Fail> {
+    let one = num(IntTy::U32, false, 1).ok_or("1 is a U32")?;
+    let text = print_lemmas(rt.alloc(), &sum(rt.alloc(), "add1", Term::literal(one))?)?;
+    assert_eq!(rt;
+        text.as_str(),
+        "import AenPrelude\nopen AenPrelude\n\ntheorem fn.add1.spec (n : Nat) (v0 : U32) (v1 : U32) (h : fn.add1 n v0 = ok v1) : True := sorry\n"
     );
     Ok(())
 }

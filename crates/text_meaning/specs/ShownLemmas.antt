@@ -14,13 +14,21 @@ abbrev pub variables_from : ℕ → ℕ → List ℕ
 variables_from k zero = []
 variables_from k (suc count) = codes " " ++ (var_text k ++ variables_from (suc k) count)
 
--- the result is the variable after the parameters
+-- `theorem fn.f.spec` and the parameters of the definition
+abbrev pub lemma_head : Defs → Def → List ℕ
+lemma_head defs d = codes "\ntheorem " ++ (kind_text defs d.kind ++ (codes ".spec" ++ binders_text defs d))
+
+-- ` (v1 : U32)`: the result is the variable after the parameters
+abbrev pub lemma_result : Defs → Def → List ℕ
+lemma_result defs d = codes " (" ++ (var_text (length d.params) ++ (codes " : " ++ (type_text defs d.type_params d.result ++ codes ")")))
+
+-- ` (h : fn.f n v0 = ok v1)`
+abbrev pub lemma_hypothesis : Defs → Def → List ℕ
+lemma_hypothesis defs d = codes " (h : " ++ (kind_text defs d.kind ++ (codes " n" ++ (variables_from 0 (length d.params)
+  ++ (codes " = ok " ++ (var_text (length d.params) ++ codes ")")))))
+
 abbrev pub lemma_text : Defs → Def → List ℕ
-lemma_text defs d =
-    codes "\ntheorem " ++ (kind_text defs d.kind ++ (codes ".spec" ++ (binders_text defs d ++ (codes " (" ++ (var_text (length d.params)
-    ++ (codes " : " ++ (type_text defs d.type_params d.result ++ (codes ") (h : " ++ (kind_text defs d.kind
-    ++ (codes " n" ++ (variables_from 0 (length d.params) ++ (codes " = ok " ++ (var_text (length d.params)
-    ++ codes ") : True := sorry\n")))))))))))))
+lemma_text defs d = lemma_head defs d ++ (lemma_result defs d ++ (lemma_hypothesis defs d ++ codes " : True := sorry\n"))
 
 abbrev pub shown_lemmas : Defs → List ℕ
 shown_lemmas defs = header ++ flat_map (lemma_text defs) defs.defs
