@@ -4,6 +4,7 @@ use Rattle.std.specs.Option.{option_map, option_and_then}
 use Rattle.std.specs.Str.{bytes_eq}
 use Rattle.rust_ast.specs.declared.function.Function.{Function}
 
+-- the first number that there is
 abbrev pub first_some : Option ℕ → Option ℕ → Option ℕ
 first_some None o = o
 first_some (Some k) o = Some k
@@ -13,9 +14,11 @@ unfoldable pub last_index : List (List ℕ) → List ℕ → Option ℕ
 last_index [] w = None
 last_index (x ∷ xs) w = first_some (option_map suc (last_index xs w)) (if bytes_eq x w then Some 0 else None)
 
+-- the names of functions
 abbrev pub names : List Function → List (List ℕ)
 names fs = map (λ (f : Function). f.name) fs
 
+-- this number, if the function has so many parameters
 abbrev pub if_arity : ℕ → ℕ → Function → Option ℕ
 if_arity count k f = if f.parameters == count then Some k else None
 

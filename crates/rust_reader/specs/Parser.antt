@@ -4,6 +4,7 @@ use Rattle.source_meaning.specs.declared.token.Token.{Token}
 use Rattle.rust_reader.specs.declared.fault.ReadFault.{ReadFault}
 use Rattle.rust_reader.specs.declared.fault.ReadFault.TheVariants.{Syntax, Memory}
 
+-- the tokens that are left
 abbrev pub Tokens : Type 0
 Tokens = List Token
 
@@ -11,6 +12,7 @@ Tokens = List Token
 abbrev pub Parser : Type 0 → Type 0
 Parser A = Tokens → Option (A × Tokens)
 
+-- what is read after something that was read
 abbrev pub and_then : {A B : Type 0} → Option (A × Tokens) → (A → Parser B) → Option (B × Tokens)
 and_then None f = None
 and_then (Some p) f = f p.0 p.1
@@ -23,6 +25,7 @@ infixl 10 ◌>>◌
 abbrev pub ◌>>◌ : {A B : Type 0} → Parser A → Parser B → Parser B
 p >> q = λ ts. and_then (p ts) (λ x. q)
 
+-- this value, with nothing read
 abbrev pub pure : {A : Type 0} → A → Parser A
 pure x ts = Some (x, ts)
 
@@ -35,6 +38,7 @@ known (Some x) ts = Some (x, ts)
 abbrev pub where_ : {A : Type 0} → Bool → Parser A → Parser A
 where_ b p ts = if b then p ts else None
 
+-- the tokens after the next
 abbrev pub tail : Tokens → Tokens
 tail [] = []
 tail (t ∷ ts) = ts

@@ -25,6 +25,7 @@ mark_of c =
     else (if c == 43 then Some Plus
     else None))))))))
 
+-- a token of n bytes at an offset
 abbrev pub token : TokenKind → ℕ → ℕ → Token
 token kind lo n = record { kind = kind; span = span_at lo n }
 
@@ -33,6 +34,7 @@ abbrev pub close : ℕ → List ℕ → List Token → List Token
 close lo [] ts = ts
 close lo (c ∷ w) ts = token (Word (c ∷ w)) lo (length (c ∷ w)) ∷ ts
 
+-- a token of one byte before those after it
 abbrev pub punct : ℕ → Option Mark → Option (List Token) → Option (List Token)
 punct at None after = None
 punct at (Some m) after = option_map (λ ts. token (Punct m) at 1 ∷ ts) after
@@ -69,6 +71,7 @@ abbrev pub from : Bool → ℕ → List ℕ → List ℕ → Option (List Token)
 from true lo w cs = arrow lo cs
 from false lo w cs = scan lo w cs
 
+-- the tokens so far before those after them
 abbrev pub prepend : List Token → Option (List Token) → Option (List Token)
 prepend ts o = option_map (λ us. ts ++ us) o
 
