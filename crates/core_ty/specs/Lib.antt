@@ -5,3 +5,5 @@ pub mod Shape
 pub mod Substitution
 pub mod Positions
 pub mod Signatures
+pub mod Containment
+pub mod Marks

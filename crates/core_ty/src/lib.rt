@@ -4,6 +4,8 @@
 mod builtins;
 mod copy;
 mod decl;
+mod endless;
+mod parts;
 mod places;
 mod same;
 mod shape;
@@ -12,6 +14,7 @@ mod ty;
 
 pub use builtins::builtin_sig;
 pub use copy::copy_tys;
+pub use endless::DeclFault;
 pub use decl::{Sig, TypeDecl, Variant};
 pub use places::{Position, positions};
 pub use same::same_tys;
