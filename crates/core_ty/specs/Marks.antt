@@ -1,7 +1,6 @@
 -- How the search for endless types holds what it knows.
-use Rattle.std.specs.Prelude.{◌≡◌, ℕ, ◌<◌, Bool, true, false, List, length, map, Option, Some, None, slice_get, unwrap_or}
-use Rattle.std.specs.List.{All}
-use Rattle.aen_base.specs.declared.ids.TypeId.{TypeId}
+use Rattle.std.specs.Prelude.{◌≡◌, ℕ, ◌+◌, ◌<◌, Bool, true, false, if◌then◌else◌, List, [], ◌∷◌, length, map, Some, slice_get, unwrap_or}
+use Rattle.std.specs.List.{All, Contains}
 use Rattle.core_ty.specs.declared.decl.TypeDecl.{TypeDecl}
 use Rattle.core_ty.specs.declared.parts.Part.{Part}
 use Rattle.core_ty.specs.declared.parts.Part.TheVariants.{Parameter, Declared}
@@ -11,13 +10,13 @@ use Rattle.core_ty.specs.Containment.{Table, IsClosed, parts_of_variants}
 abbrev pub is_set : List Bool → ℕ → Bool
 is_set row k = unwrap_or (slice_get row k) false
 
-abbrev pub is_set_in : Option (List Bool) → ℕ → Bool
-is_set_in None k = false
-is_set_in (Some row) k = is_set row k
+-- the marks of declared type d; none where it has no row
+abbrev pub row_of : List (List Bool) → ℕ → List Bool
+row_of rows d = unwrap_or (slice_get rows d) []
 
 -- the table of the marks of type parameters, a row for each declared type
 abbrev pub marked : List (List Bool) → Table
-marked rows d (Parameter k) = is_set_in (slice_get rows d) k
+marked rows d (Parameter k) = is_set (row_of rows d) k
 marked rows d (Declared e) = false
 
 -- a row for each declared type, with a place for each of its type parameters
@@ -39,10 +38,33 @@ parts_by rows decl = parts_of_variants (marked rows) decl.variants
 
 -- each type parameter that declaration d has outside Box is marked
 abbrev pub IsComplete : List TypeDecl → List (List Bool) → ℕ → Type 0
-IsComplete ds rows d = (decl : TypeDecl) (row : List Bool) → slice_get ds d ≡ Some decl → slice_get rows d ≡ Some row →
-    All (IsMarked row) (parts_by rows decl)
+IsComplete ds rows d = (decl : TypeDecl) → slice_get ds d ≡ Some decl → All (IsMarked (row_of rows d)) (parts_by rows decl)
+
+-- declaration d has its type parameter k outside Box, by the marks, and k is not marked
+abbrev pub IsUnmarked : List TypeDecl → List (List Bool) → ℕ → ℕ → Type 0
+IsUnmarked ds rows d k = (decl : TypeDecl) × (slice_get ds d ≡ Some decl)
+    × ((k < length (row_of rows d)) × (is_set (row_of rows d) k ≡ false) × Contains (parts_by rows decl) (Parameter k))
 
 -- a declared type that has a place in the list has its mark there
 abbrev pub IsSeen : List Bool → Part → Type 0
 IsSeen seen (Parameter k) = Unit {0}
 IsSeen seen (Declared e) = e.0 < length seen → is_set seen e.0 ≡ true
+
+abbrev pub type_number : ℕ → Part
+type_number e = Declared (record { 0 = e })
+
+-- the types marked in `seen` are the declared types that declaration `start` contains
+pub record IsReach (ds : List TypeDecl) (rows : List (List Bool)) (start : ℕ) (seen : List Bool) : Type 0 where
+  pub same : length seen ≡ length ds
+  pub sound : (has : Table) → IsClosed ds has → (e : ℕ) → is_set seen e ≡ true → has start (type_number e) ≡ true
+  pub first : (decl : TypeDecl) → slice_get ds start ≡ Some decl → All (IsSeen seen) (parts_by rows decl)
+  pub onward : (e : ℕ) (decl : TypeDecl) → is_set seen e ≡ true → slice_get ds e ≡ Some decl → All (IsSeen seen) (parts_by rows decl)
+
+-- how many places have no mark
+abbrev pub unset : List Bool → ℕ
+unset [] = 0
+unset (b ∷ bs) = (if b then 0 else 1) + unset bs
+
+abbrev pub unmarked : List (List Bool) → ℕ
+unmarked [] = 0
+unmarked (row ∷ rows) = unset row + unmarked rows

@@ -5,6 +5,7 @@ mod builtins;
 mod copy;
 mod decl;
 mod endless;
+mod marks;
 mod parts;
 mod places;
 mod same;
