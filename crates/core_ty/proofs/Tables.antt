@@ -79,12 +79,12 @@ module _ (has has' : Table) (below : (d k : ℕ) → has d (Parameter k) ≡ tru
   fewer vs h = All-from_recursion P (parts_of_variants has vs) (fewer_variants vs (recursion_from_All P (parts_of_variants has' vs) h))
 
 -- a place of a list that is set, and the others
-same_place : {A : Type 0} (xs : List A) (i : ℕ) (y z : A) → i < length xs → unwrap_or (slice_get (slice_set xs i y) i) z ≡ y
+pub same_place : {A : Type 0} (xs : List A) (i : ℕ) (y z : A) → i < length xs → unwrap_or (slice_get (slice_set xs i y) i) z ≡ y
 same_place [] i y z h = absurd (omega arith)
 same_place (x ∷ xs) zero y z h = refl
 same_place (x ∷ xs) (suc i) y z h = same_place xs i y z (omega arith)
 
-other_place : {A : Type 0} (xs : List A) (i j : ℕ) (y z : A) → (j ≡ i → ⊥) → unwrap_or (slice_get (slice_set xs i y) j) z ≡ unwrap_or (slice_get xs j) z
+pub other_place : {A : Type 0} (xs : List A) (i j : ℕ) (y z : A) → (j ≡ i → ⊥) → unwrap_or (slice_get (slice_set xs i y) j) z ≡ unwrap_or (slice_get xs j) z
 other_place [] i j y z h = refl
 other_place (x ∷ xs) zero zero y z h = absurd (h refl)
 other_place (x ∷ xs) zero (suc j) y z h = refl
@@ -108,7 +108,7 @@ unmarked_falls (row ∷ rows) (suc d) k h e = omega (arith, unmarked_falls rows 
 abbrev pub blank : List TypeDecl → List (List Bool)
 blank ds = map (λ decl. replicate (length decl.params) false) ds
 
-unset_everywhere : (n k : ℕ) → is_set (replicate n false) k ≡ false
+pub unset_everywhere : (n k : ℕ) → is_set (replicate n false) k ≡ false
 unset_everywhere zero k = refl
 unset_everywhere (suc n) zero = refl
 unset_everywhere (suc n) (suc k) = unset_everywhere n k
@@ -150,14 +150,21 @@ row_fits (x ∷ ds) (row ∷ rows) zero decl shape at =
     n ∙ ap (λ (y : TypeDecl). length y.params) e
 row_fits (x ∷ ds) (row ∷ rows) (suc d) decl shape at = row_fits ds rows d decl (cc) at
 
+-- a part of a declaration by the marks is in each closed table
+pub part_inside : (ds : List TypeDecl) (rows : List (List Bool)) (d : ℕ) (decl : TypeDecl) (p : Part) → AreSound ds rows →
+    slice_get ds d ≡ Some decl → Contains (parts_by rows decl) p → IsOf (length decl.params) p →
+    (has : Table) → IsClosed ds has → has d p ≡ true
+part_inside ds rows d decl p sound at among of has closed =
+    let Q : Part → Type 0 = λ q. IsOf (length decl.params) q → has d q ≡ true in
+    let all = fewer (marked rows) has (sound has closed) Q decl.variants (closed.own d decl at) in
+    All-contains Q (parts_by rows decl) p all among of
+
 -- what is marked next is in each closed table
 next_inside : (ds : List TypeDecl) (rows : List (List Bool)) (d k : ℕ) → HasShape ds rows → AreSound ds rows →
     IsUnmarked ds rows d k → (has : Table) → IsClosed ds has → has d (Parameter k) ≡ true
 next_inside ds rows d k shape sound (decl, at, (low, none, among)) has closed =
-    let Q : Part → Type 0 = λ p. IsOf (length decl.params) p → has d p ≡ true in
-    let all = fewer (marked rows) has (sound has closed) Q decl.variants (closed.own d decl at) in
     let fits = row_fits ds rows d decl shape at in
-    All-contains Q (parts_by rows decl) (Parameter k) all among (omega arith)
+    part_inside ds rows d decl (Parameter k) sound at among (omega arith) has closed
 
 pub marked_fits : (ds : List TypeDecl) (rows : List (List Bool)) (d k : ℕ) → HasShape ds rows → AreSound ds rows →
     IsUnmarked ds rows d k → HasShape ds (with_mark rows d k) × AreSound ds (with_mark rows d k)

@@ -75,3 +75,8 @@ IsVerdict ds (Ok done) = (d : ℕ) → d < length ds → IsEndless ds d → ⊥
 IsVerdict ds (Err (EndlessType d)) =
     (d.0 < length ds) × IsEndless ds d.0 × ((e : ℕ) → e < d.0 → IsEndless ds e → ⊥)
 IsVerdict ds (Err Memory) = Unit {0}
+
+-- the fault names declaration d, or memory ran out
+abbrev pub IsNamed : DeclFault → ℕ → Type 0
+IsNamed (EndlessType e) d = e.0 ≡ d
+IsNamed Memory d = Unit {0}

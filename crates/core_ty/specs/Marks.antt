@@ -1,5 +1,5 @@
 -- How the search for endless types holds what it knows.
-use Rattle.std.specs.Prelude.{◌≡◌, ℕ, ◌+◌, ◌<◌, Bool, true, false, if◌then◌else◌, List, [], ◌∷◌, length, map, Some, slice_get, unwrap_or}
+use Rattle.std.specs.Prelude.{◌≡◌, ◌⊎◌, ℕ, ◌+◌, ◌<◌, Bool, true, false, if◌then◌else◌, List, [], ◌∷◌, length, map, Some, slice_get, unwrap_or}
 use Rattle.std.specs.List.{All, Contains}
 use Rattle.core_ty.specs.declared.decl.TypeDecl.{TypeDecl}
 use Rattle.core_ty.specs.declared.parts.Part.{Part}
@@ -59,6 +59,21 @@ pub record IsReach (ds : List TypeDecl) (rows : List (List Bool)) (start : ℕ) 
   pub sound : (has : Table) → IsClosed ds has → (e : ℕ) → is_set seen e ≡ true → has start (type_number e) ≡ true
   pub first : (decl : TypeDecl) → slice_get ds start ≡ Some decl → All (IsSeen seen) (parts_by rows decl)
   pub onward : (e : ℕ) (decl : TypeDecl) → is_set seen e ≡ true → slice_get ds e ≡ Some decl → All (IsSeen seen) (parts_by rows decl)
+
+-- `new` is `seen` with marks for the declared types among the parts
+pub record Sees (ps : List Part) (seen : List Bool) (new : List Bool) : Type 0 where
+  pub same : length new ≡ length seen
+  pub kept : (e : ℕ) → is_set seen e ≡ true → is_set new e ≡ true
+  pub all : All (IsSeen new) ps
+  pub from : (e : ℕ) → is_set new e ≡ true → (is_set seen e ≡ true) ⊎ Contains ps (type_number e)
+
+-- the search for them: the types marked in `done` are those whose parts are all marked in `seen`
+pub record IsSearch (ds : List TypeDecl) (rows : List (List Bool)) (start : ℕ) (seen : List Bool) (done : List Bool) : Type 0 where
+  pub same : length seen ≡ length ds
+  pub same_done : length done ≡ length ds
+  pub sound : (has : Table) → IsClosed ds has → (e : ℕ) → is_set seen e ≡ true → has start (type_number e) ≡ true
+  pub first : (decl : TypeDecl) → slice_get ds start ≡ Some decl → All (IsSeen seen) (parts_by rows decl)
+  pub onward : (e : ℕ) (decl : TypeDecl) → is_set done e ≡ true → slice_get ds e ≡ Some decl → All (IsSeen seen) (parts_by rows decl)
 
 -- how many places have no mark
 abbrev pub unset : List Bool → ℕ

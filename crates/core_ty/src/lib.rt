@@ -9,13 +9,14 @@ mod marks;
 mod parts;
 mod places;
 mod same;
+mod search;
 mod shape;
 mod substitution;
 mod ty;
 
 pub use builtins::builtin_sig;
 pub use copy::copy_tys;
-pub use endless::DeclFault;
+pub use endless::{DeclFault, check_decls};
 pub use decl::{Sig, TypeDecl, Variant};
 pub use places::{Position, positions};
 pub use same::same_tys;
