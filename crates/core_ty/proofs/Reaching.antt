@@ -1,5 +1,5 @@
 -- The search for the declared types that a declaration contains.
-use Rattle.std.proofs.Common.{◌≡◌, ℕ, zero, suc, ◌+◌, ◌<◌, ◌≤◌, Bool, true, false, List, [], ◌∷◌, length, length-set, get_or, take, take_all, replicate, slice_set, slice_get, Some, ◌⊎◌, inl, inr, refl, sym, ◌∙◌, ap, subst, arith}
+use Rattle.std.proofs.Common.{◌≡◌, ℕ, ◌+◌, ◌<◌, ◌≤◌, Bool, true, false, List, length, length-set, get_or, take, take_all, replicate, slice_set, slice_get, Some, ◌⊎◌, inl, inr, sym, ◌∙◌, ap, subst, arith}
 use Rattle.std.specs.List.{All, Contains}
 use Rattle.std.proofs.lemmas.List.{length-replicate, get_or_default}
 use Rattle.std.proofs.lemmas.List.Elements.{All-weaker, All-more, All-same}
@@ -57,11 +57,12 @@ pub sees : (start seen new : List Bool) (ps : List Part) (i : ℕ) (d : Part) �
     × ((e : ℕ) → is_set start e ≡ true → is_set new e ≡ true)
     × All (IsSeen new) (take (i + 1) ps)
     × ((e : ℕ) → is_set new e ≡ true → (is_set start e ≡ true) ⊎ Contains ps (type_number e))
-sees start seen new ps i d h (long, held, all, begun) same kept here from =
-    ( same ∙ long
-    , λ e s. kept e (held e s)
-    , All-more (IsSeen new) ps i d h (all_kept seen new same kept (take i ps) all) here
-    , λ e s. since e (among_by seen ps i e d h (from e s)) )
+sees start seen new ps i d h (long, held, all, begun) same kept here from = (
+  same ∙ long,
+  λ e s. kept e (held e s),
+  All-more (IsSeen new) ps i d h (all_kept seen new same kept (take i ps) all) here,
+  λ e s. since e (among_by seen ps i e d h (from e s)),
+)
   where
     since : (e : ℕ) → (is_set seen e ≡ true) ⊎ Contains ps (type_number e) → (is_set start e ≡ true) ⊎ Contains ps (type_number e)
     since e (inl s) = begun e s
@@ -108,7 +109,8 @@ goes_on ds rows start next decl seen done new after sound search at here made se
     inside has closed e (inl s) = search.sound has closed e s
     inside has closed e (inr among) =
         closed.onward start (record { 0 = next }) (record { 0 = e }) (search.sound has closed next here)
-            (part_inside ds rows next decl (type_number e) sound at among tt has closed)
+        (part_inside ds rows next decl (type_number e) sound at among tt has closed)
+
     parts_seen : (e : ℕ) (other : TypeDecl) → slice_get ds e ≡ Some other → (is_set done e ≡ true) ⊎ (e ≡ next) →
         All (IsSeen new) (parts_by rows other)
     parts_seen e other at' (inl s) = all_kept seen new sees.same sees.kept (parts_by rows other) (search.onward e other s at')

@@ -1,5 +1,5 @@
 -- Tables, their marks, and the parts that stand in types by them.
-use Rattle.std.proofs.Common.{◌≡◌, ℕ, zero, suc, ◌+◌, ◌<◌, ◌≤◌, Bool, true, false, if◌then◌else◌, ◌&&◌, ◌||◌, not, nat_lt, nat_le, ◌==◌, List, [], ◌∷◌, ◌++◌, length, map, replicate, length-set, slice_set, slice_get, unwrap_or, Some, None, ◌⊎◌, inl, inr, refl, sym, ◌∙◌, ap, subst, arith}
+use Rattle.std.proofs.Common.{◌≡◌, ℕ, zero, suc, ◌+◌, ◌<◌, Bool, true, false, if◌then◌else◌, List, [], ◌∷◌, ◌++◌, length, map, replicate, length-set, slice_set, slice_get, unwrap_or, Some, ◌⊎◌, inl, inr, refl, sym, ◌∙◌, ap, subst, arith}
 use Rattle.std.specs.List.{All, Contains, AllByRecursion}
 use Rattle.std.proofs.lemmas.List.Elements.{All-from_recursion, recursion_from_All, All-contains}
 use Rattle.std.proofs.lemmas.Bool.{cases_eq, true≢false}
@@ -7,10 +7,10 @@ use Rattle.std.proofs.lemmas.List.{length-replicate}
 use Rattle.core_ty.specs.declared.decl.TypeDecl.{TypeDecl}
 use Rattle.core_ty.specs.declared.decl.Variant.{Variant}
 use Rattle.core_ty.specs.declared.parts.Part.{Part}
-use Rattle.core_ty.specs.declared.parts.Part.TheVariants.{Parameter, Declared}
+use Rattle.core_ty.specs.declared.parts.Part.TheVariants.{Parameter}
 use Rattle.core_ty.specs.Types as t
 use Rattle.core_ty.specs.Containment.{Table, parts, parts_of_all, parts_given, parts_of_fields, parts_of_variants, IsOf, IsClosed}
-use Rattle.core_ty.specs.Marks.{is_set, row_of, marked, HasShape, AreSound, IsMarked, IsComplete, IsUnmarked, parts_by, unset, unmarked}
+use Rattle.core_ty.specs.Marks.{is_set, row_of, marked, HasShape, AreSound, IsUnmarked, parts_by, unset, unmarked}
 
 -- each of two lists and of both in a row
 left : (P : Part → Type 0) (xs ys : List Part) → AllByRecursion P (xs ++ ys) → AllByRecursion P xs
@@ -48,8 +48,8 @@ module _ (has has' : Table) (below : (d k : ℕ) → has d (Parameter k) ≡ tru
     fewer_all t.no_tys h = h
     fewer_all (t.more_tys x xs) h =
         both P (parts has x) (parts_of_all has xs)
-            (fewer_ty x (left P (parts has' x) (parts_of_all has' xs) h))
-            (fewer_all xs (right P (parts has' x) (parts_of_all has' xs) h))
+        (fewer_ty x (left P (parts has' x) (parts_of_all has' xs) h))
+        (fewer_all xs (right P (parts has' x) (parts_of_all has' xs) h))
 
     fewer_given : (d k : ℕ) (xs : t.Tys) → AllByRecursion P (parts_given has' d k xs) → AllByRecursion P (parts_given has d k xs)
     fewer_given d k t.no_tys h = h
@@ -57,23 +57,23 @@ module _ (has has' : Table) (below : (d k : ℕ) → has d (Parameter k) ≡ tru
         let now = if has d (Parameter k) then parts has x else [] in
         let now' = if has' d (Parameter k) then parts has' x else [] in
         both P now (parts_given has d (k + 1) xs)
-            (given_by P (has d (Parameter k)) (has' d (Parameter k)) (parts has x) (parts has' x) (below d k) (fewer_ty x)
-                (left P now' (parts_given has' d (k + 1) xs) h))
-            (fewer_given d (k + 1) xs (right P now' (parts_given has' d (k + 1) xs) h))
+        (given_by P (has d (Parameter k)) (has' d (Parameter k)) (parts has x) (parts has' x) (below d k) (fewer_ty x)
+        (left P now' (parts_given has' d (k + 1) xs) h))
+        (fewer_given d (k + 1) xs (right P now' (parts_given has' d (k + 1) xs) h))
 
   fewer_fields : (fs : List (List ℕ × t.Ty)) → AllByRecursion P (parts_of_fields has' fs) → AllByRecursion P (parts_of_fields has fs)
   fewer_fields [] h = h
   fewer_fields (f ∷ fs) h =
       both P (parts has f.1) (parts_of_fields has fs)
-          (fewer_ty f.1 (left P (parts has' f.1) (parts_of_fields has' fs) h))
-          (fewer_fields fs (right P (parts has' f.1) (parts_of_fields has' fs) h))
+      (fewer_ty f.1 (left P (parts has' f.1) (parts_of_fields has' fs) h))
+      (fewer_fields fs (right P (parts has' f.1) (parts_of_fields has' fs) h))
 
   fewer_variants : (vs : List Variant) → AllByRecursion P (parts_of_variants has' vs) → AllByRecursion P (parts_of_variants has vs)
   fewer_variants [] h = h
   fewer_variants (v ∷ vs) h =
       both P (parts_of_fields has v.fields) (parts_of_variants has vs)
-          (fewer_fields v.fields (left P (parts_of_fields has' v.fields) (parts_of_variants has' vs) h))
-          (fewer_variants vs (right P (parts_of_fields has' v.fields) (parts_of_variants has' vs) h))
+      (fewer_fields v.fields (left P (parts_of_fields has' v.fields) (parts_of_variants has' vs) h))
+      (fewer_variants vs (right P (parts_of_fields has' v.fields) (parts_of_variants has' vs) h))
 
   pub fewer : (vs : List Variant) → All P (parts_of_variants has' vs) → All P (parts_of_variants has vs)
   fewer vs h = All-from_recursion P (parts_of_variants has vs) (fewer_variants vs (recursion_from_All P (parts_of_variants has' vs) h))

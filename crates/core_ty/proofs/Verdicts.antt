@@ -1,20 +1,19 @@
 -- A declaration that the search doesn't find among its own types doesn't contain itself: a closed
 -- table says so.
-use Rattle.std.proofs.Common.{◌≡◌, ℕ, ◌+◌, ◌<◌, ◌≤◌, Bool, true, false, not, ◌&&◌, ◌||◌, nat_lt, nat_le, ◌==◌, List, length, slice_get, slice_index_or, Some, ◌⊎◌, inl, inr, refl, sym, ◌∙◌, ap, arith}
+use Rattle.std.proofs.Common.{◌≡◌, ℕ, ◌+◌, ◌<◌, ◌≤◌, Bool, true, false, not, ◌&&◌, ◌||◌, nat_lt, nat_le, ◌==◌, List, length, slice_get, slice_index_or, Some, ◌⊎◌, inl, inr, refl, sym, ◌∙◌, ap, subst, arith}
 use Rattle.std.specs.List.{All}
-use Rattle.std.proofs.lemmas.Bool.{lt-ltb, le-ltb, ltb-true, le-leb, lt-leb, leb-true, eq-eqb, eqb-true, and_parts, and_from, or_left, or_right, or_from, or_cases, cases_Bool, cases_lt, true≢false}
+use Rattle.std.proofs.lemmas.Bool.{lt-ltb, ltb-true, le-leb, leb-true, eq-eqb, eqb-true, and_parts, and_from, or_left, or_right, or_cases, cases_Bool, cases_lt, true≢false}
 use Rattle.std.proofs.lemmas.Option.{slice_get_within}
 use Rattle.aen_base.specs.declared.ids.TypeId.{TypeId}
 use Rattle.core_ty.specs.declared.decl.TypeDecl.{TypeDecl}
 use Rattle.core_ty.specs.declared.parts.Part.{Part}
 use Rattle.core_ty.specs.declared.parts.Part.TheVariants.{Parameter, Declared}
 use Rattle.core_ty.specs.Containment.{Table, IsClosed, IsOf, IsEndless, parts_of_variants}
-use Rattle.core_ty.specs.Marks.{is_set, row_of, marked, HasShape, IsMarked, IsComplete, IsSeen, IsReach, type_number, parts_by}
+use Rattle.core_ty.specs.Marks.{is_set, row_of, marked, HasShape, IsMarked, IsComplete, IsSeen, IsReach, parts_by}
 use Rattle.core_ty.proofs.Tables.{fewer, row_fits}
 
 module _ (ds : List TypeDecl) (rows : List (List Bool)) (start : ℕ) (seen : List Bool)
     (shape : HasShape ds rows) (complete : (d : ℕ) → IsComplete ds rows d) (reach : IsReach ds rows start seen) where
-
   -- whether the search came to this declaration
   abbrev visited : ℕ → Bool
   visited d = (d == start) || is_set seen d
@@ -35,10 +34,10 @@ module _ (ds : List TypeDecl) (rows : List (List Bool)) (start : ℕ) (seen : Li
       table d (Declared e) ≡ true
   has_type d e low h (inl v) =
       and_from (nat_lt d (length ds)) (not (visited d) || met e.0) (lt-ltb d (length ds) low)
-          (or_right (not (visited d)) (met e.0) (h v))
+      (or_right (not (visited d)) (met e.0) (h v))
   has_type d e low h (inr v) =
       and_from (nat_lt d (length ds)) (not (visited d) || met e.0) (lt-ltb d (length ds) low)
-          (or_left (not (visited d)) (met e.0) (ap not v))
+      (or_left (not (visited d)) (met e.0) (ap not v))
 
   Fits : ℕ → ℕ → Part → Type 0
   Fits n d p = IsOf n p → table d p ≡ true
@@ -61,8 +60,8 @@ module _ (ds : List TypeDecl) (rows : List (List Bool)) (start : ℕ) (seen : Li
   parts_fit : (d : ℕ) (decl : TypeDecl) → slice_get ds d ≡ Some decl → All (Fits (length decl.params) d) (parts_of_variants table decl.variants)
   parts_fit d decl at =
       fewer table (marked rows) (λ e k h. h) (Fits (length decl.params) d) decl.variants
-          (λ k z low. part_fits d decl at (slice_index_or (parts_by rows decl) k z) (complete d decl at k z low)
-              (λ v. seen_parts d decl at v k z low))
+      (λ k z low. part_fits d decl at (slice_index_or (parts_by rows decl) k z) (complete d decl at k z low)
+      (λ v. seen_parts d decl at v k z low))
 
   goes_onward : (d : ℕ) (m e : TypeId) → table d (Declared m) ≡ true → table m.0 (Declared e) ≡ true → table d (Declared e) ≡ true
   goes_onward d m e h k =
@@ -76,6 +75,7 @@ module _ (ds : List TypeDecl) (rows : List (List Bool)) (start : ℕ) (seen : Li
           by : (not (visited d) ≡ true) ⊎ (met m.0 ≡ true) → met m.0 ≡ true
           by (inl y) = absurd (true≢false (sym y ∙ ap not v))
           by (inr y) = y
+
       onward : visited d ≡ true → (not (visited d) || met m.0) ≡ true → nat_lt m.0 (length ds) ≡ true →
           (not (visited m.0) || met e.0) ≡ true → met e.0 ≡ true
       onward v x low y = by (or_cases (is_set seen m.0) (nat_le (length ds) m.0) (came x v)) (or_cases (not (visited m.0)) (met e.0) y)
@@ -91,4 +91,31 @@ module _ (ds : List TypeDecl) (rows : List (List Bool)) (start : ℕ) (seen : Li
   closed = record { own = parts_fit; onward = goes_onward }
 
   pub not_endless : start < length ds → is_set seen start ≡ false → IsEndless ds start → ⊥
-  not_endless low unseen endless = ?
+  not_endless low unseen endless =
+      let says = and_parts (nat_lt start (length ds)) (not (visited start) || met start) (endless table closed) in
+      let here : visited start ≡ true = or_left (start == start) (is_set seen start) (eq-eqb start start refl) in
+      by_visit here (or_cases (not (visited start)) (met start) says.1)
+    where
+      by_mark : (is_set seen start ≡ true) ⊎ (nat_le (length ds) start ≡ true) → ⊥
+      by_mark (inl s) = true≢false (sym s ∙ unseen)
+      by_mark (inr b) = let far : length ds ≤ start = leb-true (length ds) start b in absurd (omega arith)
+
+      by_visit : visited start ≡ true → (not (visited start) ≡ true) ⊎ (met start ≡ true) → ⊥
+      by_visit v (inl y) = true≢false (sym y ∙ ap not v)
+      by_visit v (inr y) = by_mark (or_cases (is_set seen start) (nat_le (length ds) start) y)
+
+-- one declaration more that doesn't contain itself
+one_more : (ds : List TypeDecl) (n e : ℕ) → (e < n) ⊎ (n ≤ e) → ((k : ℕ) → k < n → IsEndless ds k → ⊥) → (IsEndless ds n → ⊥) →
+    e < n + 1 → IsEndless ds e → ⊥
+one_more ds n e (inl low) before here h endless = before e low endless
+one_more ds n e (inr high) before here h endless =
+    let x : e ≡ n = omega arith in
+    here (subst (λ k. IsEndless ds k) x endless)
+
+pub next_not_endless : (ds : List TypeDecl) (rows shown : List (List Bool)) (n : ℕ) (seen : List Bool) →
+    HasShape ds rows → ((d : ℕ) → IsComplete ds rows d) → shown ≡ rows → IsReach ds shown n seen →
+    n < length ds → is_set seen n ≡ false → ((k : ℕ) → k < n → IsEndless ds k → ⊥) →
+    (e : ℕ) → e < n + 1 → IsEndless ds e → ⊥
+next_not_endless ds rows shown n seen shape complete same reach low unseen before e =
+    let reach' : IsReach ds rows n seen = subst (λ (r : List (List Bool)). IsReach ds r n seen) same reach in
+    one_more ds n e (cases_lt e n) before (not_endless ds rows n seen shape complete reach' low unseen)

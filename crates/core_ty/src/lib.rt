@@ -16,8 +16,8 @@ mod ty;
 
 pub use builtins::builtin_sig;
 pub use copy::copy_tys;
-pub use endless::{DeclFault, check_decls};
 pub use decl::{Sig, TypeDecl, Variant};
+pub use endless::{DeclFault, check_decls};
 pub use places::{Position, positions};
 pub use same::same_tys;
 pub use shape::is_copy;

@@ -98,7 +98,11 @@ fn unmarked_place(row: &[bool], part: Part) -> Option<usize>
 
 /// A declared type and a type parameter that it has outside Box by the marks, but that is not
 /// marked; None where there is none.
-fn next_unmarked(alloc: Global, decls: &[TypeDecl], rows: &[List<bool>]) -> Result<Option<(usize, usize)>, NoMem>
+fn next_unmarked(
+    alloc: Global,
+    decls: &[TypeDecl],
+    rows: &[List<bool>],
+) -> Result<Option<(usize, usize)>, NoMem>
     ensures { IfOk result (λ next. MatchOption next ((d : ℕ) → spec.IsComplete decls.now rows.now d)
         (λ place. spec.IsUnmarked decls.now rows.now place.0 place.1)) }
 {

@@ -42,7 +42,11 @@ pub(crate) fn is_set(row: &[bool], place: usize) -> bool
 
 /// The parts of a declaration's fields that stand outside Box, by the marks. The only error is
 /// want of memory.
-pub(crate) fn parts_of(alloc: Global, marks: &[List<bool>], decl: &TypeDecl) -> Result<List<Part>, NoMem>
+pub(crate) fn parts_of(
+    alloc: Global,
+    marks: &[List<bool>],
+    decl: &TypeDecl,
+) -> Result<List<Part>, NoMem>
     ensures { IfOk result (λ ps. ps ≡ parts_by marks.now decl.now) }
 {
     let mut found = List::new(alloc);
@@ -52,7 +56,11 @@ pub(crate) fn parts_of(alloc: Global, marks: &[List<bool>], decl: &TypeDecl) -> 
     Ok(found)
 }
 
-fn add_fields(marks: &[List<bool>], fields: &[(Name, Ty)], found: &mut List<Part>) -> Result<(), NoMem>
+fn add_fields(
+    marks: &[List<bool>],
+    fields: &[(Name, Ty)],
+    found: &mut List<Part>,
+) -> Result<(), NoMem>
     ensures { OnOk result (found.new ≡ found.old ++ spec.parts_of_fields (marked marks.now) fields.now) }
 {
     for field in fields {
@@ -72,7 +80,8 @@ fn add_parts(marks: &[List<bool>], ty: &Ty, found: &mut List<Part>) -> Result<()
             add_given(marks, *decl, args.as_slice(), found)
         }
         TyNode::Param(number) => found.push(Part::Parameter(*number)),
-        TyNode::Int(_) | TyNode::Bool | TyNode::Unit | TyNode::Boxed(_) | TyNode::Ref(_, _, _) => Ok(()),
+        TyNode::Int(_) | TyNode::Bool | TyNode::Unit | TyNode::Boxed(_) | TyNode::Ref(_, _, _) =>
+            Ok(()),
     }
 }
 
@@ -87,7 +96,12 @@ fn add_all(marks: &[List<bool>], parts: &[Ty], found: &mut List<Part>) -> Result
 }
 
 #[cycle(parts)]
-fn add_given(marks: &[List<bool>], decl: TypeId, args: &[Ty], found: &mut List<Part>) -> Result<(), NoMem>
+fn add_given(
+    marks: &[List<bool>],
+    decl: TypeId,
+    args: &[Ty],
+    found: &mut List<Part>,
+) -> Result<(), NoMem>
     ensures { OnOk result (found.new ≡ found.old ++ spec.parts_given (marked marks.now) decl.0 0 (tys args.now)) }
 {
     let mut number = 0usize;

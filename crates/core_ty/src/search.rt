@@ -12,7 +12,12 @@ use std::alloc::Global;
 
 /// The declared types that a declaration contains outside Box, with a mark for each, by the marks
 /// of type parameters. The only error is want of memory.
-pub(crate) fn reach(alloc: Global, decls: &[TypeDecl], rows: &[List<bool>], start: usize) -> Result<List<bool>, NoMem>
+pub(crate) fn reach(
+    alloc: Global,
+    decls: &[TypeDecl],
+    rows: &[List<bool>],
+    start: usize,
+) -> Result<List<bool>, NoMem>
     requires within { start < length decls.now }
     requires sound { spec.AreSound decls.now rows.now }
     ensures { IfOk result (λ seen. spec.IsReach decls.now rows.now start seen) }
@@ -28,7 +33,12 @@ pub(crate) fn reach(alloc: Global, decls: &[TypeDecl], rows: &[List<bool>], star
 }
 
 /// Marks the declared types among a declaration's parts.
-fn see_parts(alloc: Global, rows: &[List<bool>], decl: &TypeDecl, seen: &mut List<bool>) -> Result<(), NoMem>
+fn see_parts(
+    alloc: Global,
+    rows: &[List<bool>],
+    decl: &TypeDecl,
+    seen: &mut List<bool>,
+) -> Result<(), NoMem>
     ensures { OnOk result (spec.Sees (spec.parts_by rows.now decl.now) seen.old seen.new) }
 {
     let parts = parts_of(alloc, rows, decl)?;

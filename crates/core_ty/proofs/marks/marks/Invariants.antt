@@ -1,4 +1,3 @@
-use Rattle.std.proofs.Common.{◌≡◌, ℕ}
 use Rattle.core_ty.specs.Marks as spec
 use Rattle.core_ty.proofs.marks.marks.Given as goal
 

@@ -1,4 +1,3 @@
-use Rattle.std.proofs.Common.{◌<◌, length, arith}
 use Rattle.std.proofs.lemmas.List.Elements.{All-more}
 use Rattle.core_ty.specs.Marks.{IsMarked}
 use Rattle.core_ty.specs.declared.parts.Part.TheVariants.{Parameter}

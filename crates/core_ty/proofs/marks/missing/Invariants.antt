@@ -1,4 +1,4 @@
-use Rattle.std.proofs.Common.{◌≡◌, take}
+use Rattle.std.proofs.Common.{take}
 use Rattle.std.specs.List.{All}
 use Rattle.core_ty.specs.Marks as spec
 use Rattle.core_ty.proofs.marks.missing.Given as goal

@@ -1,4 +1,4 @@
-use Rattle.std.proofs.Common.{◌≡◌, ℕ, ◌<◌}
+use Rattle.std.proofs.Common.{ℕ, ◌<◌}
 use Rattle.core_ty.specs.Marks as spec
 use Rattle.core_ty.proofs.marks.next_unmarked.Given as goal
 

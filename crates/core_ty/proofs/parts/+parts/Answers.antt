@@ -1,4 +1,4 @@
-use Rattle.std.proofs.Common.{◌<◌, arith}
+use Rattle.std.proofs.Common.{arith}
 use Rattle.core_ty.proofs.Items.{item}
 use Rattle.core_ty.proofs.parts.+parts.Goals as goal
 

@@ -1,4 +1,4 @@
-use Rattle.std.proofs.Common.{◌≡◌, ℕ, ◌+◌, ◌*◌, ◌++◌, drop}
+use Rattle.std.proofs.Common.{◌≡◌, ◌*◌, ◌++◌, drop}
 use Rattle.core_ty.specs.Types.{tys, nodes_ty, nodes_tys}
 use Rattle.core_ty.specs.Containment as spec
 use Rattle.core_ty.specs.Marks.{marked}

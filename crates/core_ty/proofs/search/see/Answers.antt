@@ -1,4 +1,3 @@
-use Rattle.std.proofs.Common.{◌<◌, ◌≤◌, length, arith}
 use Rattle.core_ty.specs.Marks.{IsSeen}
 use Rattle.core_ty.specs.declared.parts.Part.TheVariants.{Parameter}
 use Rattle.core_ty.proofs.Reaching.{sees, all_taken}
@@ -7,7 +6,7 @@ use Rattle.core_ty.proofs.search.see.Goals as goal
 pub loop-part-preserved : goal.loop-part-preserved
 loop-part-preserved c =
     sees c.args.seen.now c.loop-part.seen c.see_part.new.seen c.args.parts.now c.loop-part.part-index (Parameter 0) c.loop-part-test.true
-        c.loop-part.invariant c.see_part.ensures.same c.see_part.ensures.kept c.see_part.ensures.here c.see_part.ensures.from
+    c.loop-part.invariant c.see_part.ensures.same c.see_part.ensures.kept c.see_part.ensures.here c.see_part.ensures.from
 
 pub returns : goal.returns
 returns c = record {
