@@ -71,7 +71,7 @@ sees start seen new ps i d h (long, held, all, begun) same kept here from = (
 pub all_taken : (P : Part → Type 0) (ps : List Part) (i : ℕ) → length ps ≤ i → All P (take i ps) → All P ps
 all_taken P ps i h all = All-same P ps (take i ps) (sym (take_all i ps h)) all
 
-same_decl : (ds : List TypeDecl) (d : ℕ) (x y : TypeDecl) → slice_get ds d ≡ Some x → slice_get ds d ≡ Some y → x ≡ y
+pub same_decl : (ds : List TypeDecl) (d : ℕ) (x y : TypeDecl) → slice_get ds d ≡ Some x → slice_get ds d ≡ Some y → x ≡ y
 same_decl ds d x y p q = cc
 
 -- the search after the parts of the declaration itself

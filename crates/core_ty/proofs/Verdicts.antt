@@ -1,7 +1,9 @@
 -- A declaration that the search doesn't find among its own types doesn't contain itself: a closed
 -- table says so.
-use Rattle.std.proofs.Common.{◌≡◌, ℕ, ◌+◌, ◌<◌, ◌≤◌, Bool, true, false, not, ◌&&◌, ◌||◌, nat_lt, nat_le, ◌==◌, List, length, slice_get, slice_index_or, Some, ◌⊎◌, inl, inr, refl, sym, ◌∙◌, ap, subst, arith}
+use Rattle.std.proofs.Common.{◌≡◌, ℕ, ◌+◌, ◌<◌, ◌≤◌, Bool, true, false, not, ◌&&◌, ◌||◌, nat_lt, nat_le, ◌==◌, List, length, length-set, replicate, slice_get, slice_set, slice_index_or, Some, ◌⊎◌, inl, inr, refl, sym, ◌∙◌, ap, subst, arith}
 use Rattle.std.specs.List.{All}
+use Rattle.std.specs.Bool.{MatchBool}
+use Rattle.std.proofs.lemmas.List.{length-replicate}
 use Rattle.std.proofs.lemmas.Bool.{lt-ltb, ltb-true, le-leb, leb-true, eq-eqb, eqb-true, and_parts, and_from, or_left, or_right, or_cases, cases_Bool, cases_lt, true≢false}
 use Rattle.std.proofs.lemmas.Option.{slice_get_within}
 use Rattle.aen_base.specs.declared.ids.TypeId.{TypeId}
@@ -9,11 +11,14 @@ use Rattle.core_ty.specs.declared.decl.TypeDecl.{TypeDecl}
 use Rattle.core_ty.specs.declared.parts.Part.{Part}
 use Rattle.core_ty.specs.declared.parts.Part.TheVariants.{Parameter, Declared}
 use Rattle.core_ty.specs.Containment.{Table, IsClosed, IsOf, IsEndless, parts_of_variants}
-use Rattle.core_ty.specs.Marks.{is_set, row_of, marked, HasShape, IsMarked, IsComplete, IsSeen, IsReach, parts_by}
-use Rattle.core_ty.proofs.Tables.{fewer, row_fits}
+use Rattle.core_ty.specs.Marks.{is_set, row_of, marked, HasShape, IsMarked, IsComplete, IsSeen, IsReach, parts_by, AreSound, IsClear}
+use Rattle.core_ty.proofs.Tables.{fewer, row_fits, unset_everywhere}
+use Rattle.core_ty.proofs.Reaching.{set_from, set_kept, all_kept, same_decl}
 
 module _ (ds : List TypeDecl) (rows : List (List Bool)) (start : ℕ) (seen : List Bool)
-    (shape : HasShape ds rows) (complete : (d : ℕ) → IsComplete ds rows d) (reach : IsReach ds rows start seen) where
+    (shape : HasShape ds rows) (complete : (d : ℕ) → IsComplete ds rows d) (same : length seen ≡ length ds)
+    (first : (decl : TypeDecl) → slice_get ds start ≡ Some decl → All (IsSeen seen) (parts_by rows decl))
+    (beyond : (e : ℕ) (decl : TypeDecl) → is_set seen e ≡ true → slice_get ds e ≡ Some decl → All (IsSeen seen) (parts_by rows decl)) where
   -- whether the search came to this declaration
   abbrev visited : ℕ → Bool
   visited d = (d == start) || is_set seen d
@@ -27,7 +32,7 @@ module _ (ds : List TypeDecl) (rows : List (List Bool)) (start : ℕ) (seen : Li
   table d (Declared e) = nat_lt d (length ds) && (not (visited d) || met e.0)
 
   met_seen : (e : ℕ) → (e < length ds) ⊎ (length ds ≤ e) → (e < length seen → is_set seen e ≡ true) → met e ≡ true
-  met_seen e (inl low) h = or_left (is_set seen e) (nat_le (length ds) e) (h (omega (arith, reach.same)))
+  met_seen e (inl low) h = or_left (is_set seen e) (nat_le (length ds) e) (h (omega (arith, same)))
   met_seen e (inr high) h = or_right (is_set seen e) (nat_le (length ds) e) (le-leb (length ds) e high)
 
   has_type : (d : ℕ) (e : TypeId) → d < length ds → (visited d ≡ true → met e.0 ≡ true) → (visited d ≡ true) ⊎ (visited d ≡ false) →
@@ -54,8 +59,8 @@ module _ (ds : List TypeDecl) (rows : List (List Bool)) (start : ℕ) (seen : Li
     where
       seen_by : (d : ℕ) (decl : TypeDecl) → slice_get ds d ≡ Some decl → ((d == start) ≡ true) ⊎ (is_set seen d ≡ true) →
           All (IsSeen seen) (parts_by rows decl)
-      seen_by d decl at (inl x) = reach.first decl (ap (λ i. slice_get ds i) (sym (eqb-true d start x)) ∙ at)
-      seen_by d decl at (inr x) = reach.onward d decl x at
+      seen_by d decl at (inl x) = first decl (ap (λ i. slice_get ds i) (sym (eqb-true d start x)) ∙ at)
+      seen_by d decl at (inr x) = beyond d decl x at
 
   parts_fit : (d : ℕ) (decl : TypeDecl) → slice_get ds d ≡ Some decl → All (Fits (length decl.params) d) (parts_of_variants table decl.variants)
   parts_fit d decl at =
@@ -112,10 +117,52 @@ one_more ds n e (inr high) before here h endless =
     let x : e ≡ n = omega arith in
     here (subst (λ k. IsEndless ds k) x endless)
 
-pub next_not_endless : (ds : List TypeDecl) (rows shown : List (List Bool)) (n : ℕ) (seen : List Bool) →
-    HasShape ds rows → ((d : ℕ) → IsComplete ds rows d) → shown ≡ rows → IsReach ds shown n seen →
-    n < length ds → is_set seen n ≡ false → ((k : ℕ) → k < n → IsEndless ds k → ⊥) →
+-- the answer of the search for declaration n
+pub by_search : (ds : List TypeDecl) (rows : List (List Bool)) (n : ℕ) (seen : List Bool) (b : Bool) →
+    HasShape ds rows → ((d : ℕ) → IsComplete ds rows d) → AreSound ds rows → IsReach ds rows n seen →
+    n < length ds → is_set seen n ≡ b → MatchBool b (IsEndless ds n) (IsEndless ds n → ⊥)
+by_search ds rows n seen true shape complete sound reach low is = λ has closed. reach.sound has closed n is
+by_search ds rows n seen false shape complete sound reach low is =
+    not_endless ds rows n seen shape complete reach.same reach.first reach.onward low is
+
+pub next_not_endless : (ds : List TypeDecl) (n : ℕ) → ((k : ℕ) → k < n → IsEndless ds k → ⊥) → (IsEndless ds n → ⊥) →
     (e : ℕ) → e < n + 1 → IsEndless ds e → ⊥
-next_not_endless ds rows shown n seen shape complete same reach low unseen before e =
-    let reach' : IsReach ds rows n seen = subst (λ (r : List (List Bool)). IsReach ds r n seen) same reach in
-    one_more ds n e (cases_lt e n) before (not_endless ds rows n seen shape complete reach' low unseen)
+next_not_endless ds n before here e = one_more ds n e (cases_lt e n) before here
+
+-- no declaration is marked yet
+pub none_clear : (ds : List TypeDecl) (rows : List (List Bool)) (marks : List Bool) → marks ≡ replicate (length ds) false →
+    IsClear ds rows marks
+none_clear ds rows marks none = record {
+  same = ap length none ∙ length-replicate (length ds) false;
+  onward = λ e decl s at. absurd (unmarked_yet e s);
+  none = λ e s endless. unmarked_yet e s;
+}
+  where
+    unmarked_yet : (e : ℕ) → is_set marks e ≡ true → ⊥
+    unmarked_yet e s = true≢false (sym s ∙ ap (λ row. is_set row e) none ∙ unset_everywhere (length ds) e)
+
+-- and one more, all of whose types are marked
+pub one_clear : (ds : List TypeDecl) (rows : List (List Bool)) (marks after : List Bool) (d : ℕ) (decl : TypeDecl) →
+    HasShape ds rows → ((k : ℕ) → IsComplete ds rows k) → IsClear ds rows marks → is_set marks d ≡ false →
+    slice_get ds d ≡ Some decl → All (IsSeen marks) (parts_by rows decl) → after ≡ slice_set marks d true → IsClear ds rows after
+one_clear ds rows marks after d decl shape complete clear unset at all made = rw made (record {
+  same = length-set marks d true ∙ clear.same;
+  onward = λ e other s at'. parts_marked e other at' (set_from marks d e s);
+  none = λ e s. not_itself e (set_from marks d e s);
+})
+  where
+    low : d < length marks
+    low = let h = slice_get_within ds d decl at in omega (arith, clear.same)
+    all_of : (other : TypeDecl) → slice_get ds d ≡ Some other → All (IsSeen marks) (parts_by rows other)
+    all_of other at' = subst (λ (y : TypeDecl). All (IsSeen marks) (parts_by rows y)) (same_decl ds d decl other at at') all
+    parts_marked : (e : ℕ) (other : TypeDecl) → slice_get ds e ≡ Some other → (is_set marks e ≡ true) ⊎ (e ≡ d) →
+        All (IsSeen (slice_set marks d true)) (parts_by rows other)
+    parts_marked e other at' (inl s) =
+        all_kept marks (slice_set marks d true) (length-set marks d true) (set_kept marks d low) (parts_by rows other) (clear.onward e other s at')
+    parts_marked e other at' (inr x) =
+        all_kept marks (slice_set marks d true) (length-set marks d true) (set_kept marks d low) (parts_by rows other)
+            (all_of other (ap (λ i. slice_get ds i) (sym x) ∙ at'))
+    not_itself : (e : ℕ) → (is_set marks e ≡ true) ⊎ (e ≡ d) → IsEndless ds e → ⊥
+    not_itself e (inl s) = clear.none e s
+    not_itself e (inr x) = subst (λ k. IsEndless ds k → ⊥) (sym x)
+        (not_endless ds rows d marks shape complete clear.same all_of clear.onward (slice_get_within ds d decl at) unset)

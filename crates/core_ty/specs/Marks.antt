@@ -4,7 +4,7 @@ use Rattle.std.specs.List.{All, Contains}
 use Rattle.core_ty.specs.declared.decl.TypeDecl.{TypeDecl}
 use Rattle.core_ty.specs.declared.parts.Part.{Part}
 use Rattle.core_ty.specs.declared.parts.Part.TheVariants.{Parameter, Declared}
-use Rattle.core_ty.specs.Containment.{Table, IsClosed, parts_of_variants}
+use Rattle.core_ty.specs.Containment.{Table, IsClosed, IsEndless, parts_of_variants}
 
 -- whether a mark stands in place k; none stands past the end
 abbrev pub is_set : List Bool → ℕ → Bool
@@ -74,6 +74,12 @@ pub record IsSearch (ds : List TypeDecl) (rows : List (List Bool)) (start : ℕ)
   pub sound : (has : Table) → IsClosed ds has → (e : ℕ) → is_set seen e ≡ true → has start (type_number e) ≡ true
   pub first : (decl : TypeDecl) → slice_get ds start ≡ Some decl → All (IsSeen seen) (parts_by rows decl)
   pub onward : (e : ℕ) (decl : TypeDecl) → is_set done e ≡ true → slice_get ds e ≡ Some decl → All (IsSeen seen) (parts_by rows decl)
+
+-- the declarations marked contain only declarations that are marked, and none contains itself
+pub record IsClear (ds : List TypeDecl) (rows : List (List Bool)) (marks : List Bool) : Type 0 where
+  pub same : length marks ≡ length ds
+  pub onward : (e : ℕ) (decl : TypeDecl) → is_set marks e ≡ true → slice_get ds e ≡ Some decl → All (IsSeen marks) (parts_by rows decl)
+  pub none : (e : ℕ) → is_set marks e ≡ true → IsEndless ds e → ⊥
 
 -- how many places have no mark
 abbrev pub unset : List Bool → ℕ

@@ -1,11 +1,14 @@
-ghost use Rattle.std.specs.Prelude.{◌≡◌};
-ghost use Rattle.core_ty.specs.Containment.{IsVerdict, IsNamed};
+ghost use Rattle.std.specs.Prelude.{◌≡◌, ◌<◌, ℕ, length, IfOk};
+ghost use Rattle.std.specs.Bool.{MatchBool};
+ghost use Rattle.core_ty.specs.Marks as spec;
+ghost use Rattle.core_ty.specs.Containment.{IsEndless, IsNamed, IsVerdict};
 
 use crate::TypeDecl;
+use crate::clear::clear;
 use crate::marks::marks;
 use crate::parts::is_set;
 use crate::search::reach;
-use aen_base::{NoMem, TypeId};
+use aen_base::{List, NoMem, TypeId};
 use std::alloc::Global;
 use thiserror::Error;
 
@@ -37,13 +40,35 @@ pub fn check_decls(alloc: Global, decls: &[TypeDecl]) -> Result<(), DeclFault>
     ensures { IsVerdict decls.now result }
 {
     let rows = marks(alloc, decls)?;
+    let clear = clear(alloc, decls, rows.as_slice())?;
     for decl in 0..decls.len() {
-        let seen = reach(alloc, decls, rows.as_slice(), decl)?;
-        if is_set(seen.as_slice(), decl) {
+        if contains_itself(alloc, decls, rows.as_slice(), clear.as_slice(), decl)? {
             return Err(named(decl));
         }
     }
     Ok(())
+}
+
+/// Whether a declaration contains itself outside Box. The only error is want of memory.
+fn contains_itself(
+    alloc: Global,
+    decls: &[TypeDecl],
+    rows: &[List<bool>],
+    clear: &[bool],
+    decl: usize,
+) -> Result<bool, NoMem>
+    requires within { decl < length decls.now }
+    requires shape { spec.HasShape decls.now rows.now }
+    requires sound { spec.AreSound decls.now rows.now }
+    requires complete { (d : ℕ) → spec.IsComplete decls.now rows.now d }
+    requires clear { spec.IsClear decls.now rows.now clear.now }
+    ensures { IfOk result (λ b. MatchBool b (IsEndless decls.now decl) (IsEndless decls.now decl → ⊥)) }
+{
+    if is_set(clear, decl) {
+        return Ok(false);
+    }
+    let seen = reach(alloc, decls, rows, decl)?;
+    Ok(is_set(seen.as_slice(), decl))
 }
 
 /// The fault at a type. More than 2 ^ 32 declarations have no room in memory.

@@ -2,10 +2,12 @@
 #![tactic(auto)]
 
 mod builtins;
+mod clear;
 mod copy;
 mod decl;
 mod endless;
 mod marks;
+mod order;
 mod parts;
 mod places;
 mod same;

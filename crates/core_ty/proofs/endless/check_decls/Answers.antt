@@ -1,11 +1,10 @@
-use Rattle.std.proofs.Common.{sym, ◌∙◌, ap}
-use Rattle.core_ty.specs.Marks.{is_set}
+use Rattle.std.proofs.lemmas.Bool.{MatchBool-at_false}
+use Rattle.core_ty.specs.Containment.{IsEndless}
 use Rattle.core_ty.proofs.Verdicts.{next_not_endless}
 use Rattle.core_ty.proofs.endless.check_decls.Goals as goal
 
 pub loop-decl-preserved : goal.loop-decl-preserved
 loop-decl-preserved c =
-    next_not_endless c.args.decls.now c.in_ok-rows.rows c.as_slice.result.now c.loop-decl.decl c.in_ok-seen.seen
-    c.in_ok-rows.ensures.shape c.in_ok-rows.ensures.complete c.as_slice.ensures c.in_ok-seen.ensures c.loop-decl-test.true
-    (ap (λ row. is_set row c.loop-decl.decl) (sym c.as_slice-in-loop-decl.ensures) ∙ sym c.is_set.ensures ∙ c.if-is_set.false)
-    c.loop-decl.invariant
+    let Itself : Type 0 = IsEndless c.args.decls.now c.loop-decl.decl in
+    next_not_endless c.args.decls.now c.loop-decl.decl c.loop-decl.invariant
+        (MatchBool-at_false Itself (Itself → ⊥) c.if-branch.false c.in_ok-contains_itself.ensures)
