@@ -1,9 +1,9 @@
 -- Tables, their marks, and the parts that stand in types by them.
-use Rattle.std.proofs.Common.{◌≡◌, ℕ, zero, suc, ◌+◌, ◌<◌, Bool, true, false, if◌then◌else◌, List, [], ◌∷◌, ◌++◌, length, map, replicate, length-set, slice_set, slice_get, unwrap_or, Some, ◌⊎◌, inl, inr, refl, sym, ◌∙◌, ap, subst, arith}
+use Rattle.std.proofs.Common.{◌≡◌, ℕ, zero, suc, ◌+◌, ◌<◌, Bool, true, false, if◌then◌else◌, List, [], ◌∷◌, ◌++◌, length, map, replicate, length-set, slice_set, slice_get, unwrap_or, get_or, Some, ◌⊎◌, inl, inr, refl, sym, ◌∙◌, ap, subst, arith}
 use Rattle.std.specs.List.{All, Contains, AllByRecursion}
 use Rattle.std.proofs.lemmas.List.Elements.{All-from_recursion, recursion_from_All, All-contains}
 use Rattle.std.proofs.lemmas.Bool.{cases_eq, true≢false}
-use Rattle.std.proofs.lemmas.List.{length-replicate}
+use Rattle.std.proofs.lemmas.List.{length-replicate, get_or_default}
 use Rattle.core_ty.specs.declared.decl.TypeDecl.{TypeDecl}
 use Rattle.core_ty.specs.declared.decl.Variant.{Variant}
 use Rattle.core_ty.specs.declared.parts.Part.{Part}
@@ -166,16 +166,18 @@ next_inside ds rows d k shape sound (decl, at, (low, none, among)) has closed =
     let fits = row_fits ds rows d decl shape at in
     part_inside ds rows d decl (Parameter k) sound at among (omega arith) has closed
 
+-- a mark more that is in each closed table
 pub marked_fits : (ds : List TypeDecl) (rows : List (List Bool)) (d k : ℕ) → HasShape ds rows → AreSound ds rows →
-    IsUnmarked ds rows d k → HasShape ds (with_mark rows d k) × AreSound ds (with_mark rows d k)
-marked_fits ds rows d k shape sound next =
+    k < length (row_of rows d) → ((has : Table) → IsClosed ds has → has d (Parameter k) ≡ true) →
+    HasShape ds (with_mark rows d k) × AreSound ds (with_mark rows d k)
+marked_fits ds rows d k shape sound low inside =
     (same_lengths rows d k ∙ shape, λ has closed e j h. by_place has closed e j h (cases_eq e d) (cases_eq j k))
   where
     by_place : (has : Table) → IsClosed ds has → (e j : ℕ) → is_set (row_of (with_mark rows d k) e) j ≡ true →
         ((e ≡ d) ⊎ (e ≡ d → ⊥)) → ((j ≡ k) ⊎ (j ≡ k → ⊥)) → has e (Parameter j) ≡ true
-    by_place has closed e j h (inl x) (inl y) = rw (x, y) (next_inside ds rows d k shape sound next has closed)
+    by_place has closed e j h (inl x) (inl y) = rw (x, y) (inside has closed)
     by_place has closed e j h (inl x) (inr y) =
-        let here = same_place rows d (slice_set (row_of rows d) k true) [] (row_within rows d k next.2.0) in
+        let here = same_place rows d (slice_set (row_of rows d) k true) [] (row_within rows d k low) in
         let old = other_place (row_of rows d) k j true false y in
         let seen : is_set (row_of (with_mark rows d k) d) j ≡ true = ap (λ i. is_set (row_of (with_mark rows d k) i) j) (sym x) ∙ h in
         rw x (sound has closed d j (sym old ∙ ap (λ row. is_set row j) (sym here) ∙ seen))
@@ -186,7 +188,8 @@ pub turn_fits : (ds : List TypeDecl) (rows seen new : List (List Bool)) (d k : �
     IsUnmarked ds seen d k → new ≡ with_mark rows d k → HasShape ds new × AreSound ds new
 turn_fits ds rows seen new d k e fits next made =
     let Next : List (List Bool) → Type 0 = λ r. IsUnmarked ds r d k in
-    rw made (marked_fits ds rows d k fits.0 fits.1 (subst Next e next))
+    let here : IsUnmarked ds rows d k = subst Next e next in
+    rw made (marked_fits ds rows d k fits.0 fits.1 here.2.0 (next_inside ds rows d k fits.0 fits.1 here))
 
 pub turn_falls : (ds : List TypeDecl) (rows seen new : List (List Bool)) (d k : ℕ) → seen ≡ rows →
     IsUnmarked ds seen d k → new ≡ with_mark rows d k → unmarked new < unmarked rows
@@ -194,3 +197,16 @@ turn_falls ds rows seen new d k e next made =
     let Next : List (List Bool) → Type 0 = λ r. IsUnmarked ds r d k in
     let here : IsUnmarked ds rows d k = subst Next e next in
     rw made (unmarked_falls rows d k here.2.0 here.2.1)
+
+-- one part that is marked in a walk over a declaration's parts
+pub part_fits : (ds : List TypeDecl) (first rows new : List (List Bool)) (row : List Bool) (d k i : ℕ) (decl : TypeDecl) (ps : List Part) (z : Part) →
+    AreSound ds first → HasShape ds rows × AreSound ds rows → slice_get ds d ≡ Some decl → ps ≡ parts_by first decl →
+    i < length ps → row ≡ row_of rows d → (k < length row) × (is_set row k ≡ false) × (get_or ps i z ≡ Parameter k) →
+    new ≡ with_mark rows d k → HasShape ds new × AreSound ds new
+part_fits ds first rows new row d k i decl ps z sound fits at parts low e (short, unset, is) made =
+    let fits_row = row_fits ds rows d decl fits.0 at in
+    let short' : k < length (row_of rows d) = omega (arith, ap length e) in
+    let among : Contains ps (Parameter k) = (i, low, get_or_default ps i (Parameter k) z low ∙ is) in
+    let among' : Contains (parts_by first decl) (Parameter k) = subst (λ (qs : List Part). Contains qs (Parameter k)) parts among in
+    rw made (marked_fits ds rows d k fits.0 fits.1 short'
+    (λ has closed. part_inside ds first d decl (Parameter k) sound at among' (omega arith) has closed))

@@ -153,15 +153,18 @@ one_clear ds rows marks after d decl shape complete clear unset at all made = rw
   where
     low : d < length marks
     low = let h = slice_get_within ds d decl at in omega (arith, clear.same)
+
     all_of : (other : TypeDecl) → slice_get ds d ≡ Some other → All (IsSeen marks) (parts_by rows other)
     all_of other at' = subst (λ (y : TypeDecl). All (IsSeen marks) (parts_by rows y)) (same_decl ds d decl other at at') all
+
     parts_marked : (e : ℕ) (other : TypeDecl) → slice_get ds e ≡ Some other → (is_set marks e ≡ true) ⊎ (e ≡ d) →
         All (IsSeen (slice_set marks d true)) (parts_by rows other)
     parts_marked e other at' (inl s) =
         all_kept marks (slice_set marks d true) (length-set marks d true) (set_kept marks d low) (parts_by rows other) (clear.onward e other s at')
     parts_marked e other at' (inr x) =
         all_kept marks (slice_set marks d true) (length-set marks d true) (set_kept marks d low) (parts_by rows other)
-            (all_of other (ap (λ i. slice_get ds i) (sym x) ∙ at'))
+        (all_of other (ap (λ i. slice_get ds i) (sym x) ∙ at'))
+
     not_itself : (e : ℕ) → (is_set marks e ≡ true) ⊎ (e ≡ d) → IsEndless ds e → ⊥
     not_itself e (inl s) = clear.none e s
     not_itself e (inr x) = subst (λ k. IsEndless ds k → ⊥) (sym x)

@@ -5,7 +5,7 @@ ghost use Rattle.std.specs.List.{All};
 ghost use Rattle.core_ty.specs.Marks as spec;
 
 use crate::TypeDecl;
-use crate::marks::blank_row;
+use crate::marks::equal_row;
 use crate::order::leaves_first;
 use crate::parts::{Part, is_set, parts_of};
 use aen_base::{List, NoMem, at};
@@ -13,13 +13,17 @@ use std::alloc::Global;
 
 /// A mark for each declaration that contains only declarations with a mark, and so not itself. In
 /// declarations without a circle all get one. The only error is want of memory.
-pub(crate) fn clear(alloc: Global, decls: &[TypeDecl], rows: &[List<bool>]) -> Result<List<bool>, NoMem>
+pub(crate) fn clear(
+    alloc: Global,
+    decls: &[TypeDecl],
+    rows: &[List<bool>],
+) -> Result<List<bool>, NoMem>
     requires shape { spec.HasShape decls.now rows.now }
     requires complete { (d : ℕ) → spec.IsComplete decls.now rows.now d }
     ensures { IfOk result (λ marks. spec.IsClear decls.now rows.now marks) }
 {
     let order = leaves_first(alloc, decls, rows)?;
-    let mut marks = blank_row(alloc, decls.len())?;
+    let mut marks = equal_row(alloc, decls.len(), false)?;
     for place in order.as_slice() {
         clear_one(alloc, decls, rows, *place, &mut marks)?;
     }
@@ -27,7 +31,13 @@ pub(crate) fn clear(alloc: Global, decls: &[TypeDecl], rows: &[List<bool>]) -> R
 }
 
 /// Gives a declaration its mark, if all that it contains is marked.
-fn clear_one(alloc: Global, decls: &[TypeDecl], rows: &[List<bool>], decl: usize, marks: &mut List<bool>) -> Result<(), NoMem>
+fn clear_one(
+    alloc: Global,
+    decls: &[TypeDecl],
+    rows: &[List<bool>],
+    decl: usize,
+    marks: &mut List<bool>,
+) -> Result<(), NoMem>
     requires shape { spec.HasShape decls.now rows.now }
     requires complete { (d : ℕ) → spec.IsComplete decls.now rows.now d }
     requires clear { spec.IsClear decls.now rows.now marks.old }
@@ -46,7 +56,12 @@ fn clear_one(alloc: Global, decls: &[TypeDecl], rows: &[List<bool>], decl: usize
 }
 
 /// Whether all declared types among a declaration's parts are marked.
-fn has_only(alloc: Global, rows: &[List<bool>], decl: &TypeDecl, marks: &[bool]) -> Result<bool, NoMem>
+fn has_only(
+    alloc: Global,
+    rows: &[List<bool>],
+    decl: &TypeDecl,
+    marks: &[bool],
+) -> Result<bool, NoMem>
     ensures { IfOk result (λ b. IsTrue b ↔ All (spec.IsSeen marks.now) (spec.parts_by rows.now decl.now)) }
 {
     let parts = parts_of(alloc, rows, decl)?;

@@ -160,16 +160,25 @@ mod tests {
         declare(alloc, &mut decls, parameter())?;
         declare(alloc, &mut decls, applied(alloc, 0, parameter())?)?;
         declare(alloc, &mut decls, applied(alloc, 1, plain(2, alloc))?)?;
-        assert_eq!(rt; check_decls(alloc, decls.as_slice()), Err(DeclFault::EndlessType(TypeId(2))));
+        assert_eq!(rt;
+            check_decls(alloc, decls.as_slice()),
+            Err(DeclFault::EndlessType(TypeId(2)))
+        );
         // itself in a tuple
         let mut decls = List::new(alloc);
         declare(alloc, &mut decls, pair(alloc, plain(0, alloc))?)?;
-        assert_eq!(rt; check_decls(alloc, decls.as_slice()), Err(DeclFault::EndlessType(TypeId(0))));
+        assert_eq!(rt;
+            check_decls(alloc, decls.as_slice()),
+            Err(DeclFault::EndlessType(TypeId(0)))
+        );
         // a type that only contains an endless one, and then the endless one
         let mut decls = List::new(alloc);
         declare(alloc, &mut decls, plain(1, alloc))?;
         declare(alloc, &mut decls, plain(1, alloc))?;
-        assert_eq!(rt; check_decls(alloc, decls.as_slice()), Err(DeclFault::EndlessType(TypeId(1))));
+        assert_eq!(rt;
+            check_decls(alloc, decls.as_slice()),
+            Err(DeclFault::EndlessType(TypeId(1)))
+        );
         // a circle, with a Box in it and without
         let mut decls = List::new(alloc);
         declare(alloc, &mut decls, plain(1, alloc))?;
@@ -180,7 +189,10 @@ mod tests {
         declare(alloc, &mut decls, plain(1, alloc))?;
         declare(alloc, &mut decls, plain(2, alloc))?;
         declare(alloc, &mut decls, plain(0, alloc))?;
-        assert_eq!(rt; check_decls(alloc, decls.as_slice()), Err(DeclFault::EndlessType(TypeId(0))));
+        assert_eq!(rt;
+            check_decls(alloc, decls.as_slice()),
+            Err(DeclFault::EndlessType(TypeId(0)))
+        );
         Ok(())
     }
 }

@@ -1,11 +1,12 @@
 //! Which of its type parameters each declared type has outside Box.
 
-ghost use Rattle.std.specs.Prelude.{◌≡◌, ℕ, ◌<◌, true, false, length, map, replicate, slice_set, MatchOption, IfOk};
+ghost use Rattle.std.specs.Prelude.{◌≡◌, ℕ, ◌<◌, true, false, length, map, replicate, slice_set, MatchOption, IfOk, OnOk};
 ghost use Rattle.std.specs.List.{All, Contains};
 ghost use Rattle.core_ty.specs.Marks as spec;
 ghost use Rattle.core_ty.specs.declared.parts.Part.TheVariants.{Parameter};
 
 use crate::TypeDecl;
+use crate::order::leaves_first;
 use crate::parts::{Part, is_set, parts_of};
 use aen_base::{List, NoMem, at};
 use std::alloc::Global;
@@ -17,32 +18,69 @@ pub(crate) fn marks(alloc: Global, decls: &[TypeDecl]) -> Result<List<List<bool>
     ensures sound { IfOk result (λ rows. spec.AreSound decls.now rows) }
     ensures complete { IfOk result (λ rows. (d : ℕ) → spec.IsComplete decls.now rows d) }
 {
-    let mut rows = blank_rows(alloc, decls)?;
+    let mut rows = first_marks(alloc, decls)?;
     while let Some((decl, number)) = next_unmarked(alloc, decls, rows.as_slice())? {
         mark(&mut rows, decl, number);
     }
     Ok(rows)
 }
 
-/// A row without marks.
-pub(crate) fn blank_row(alloc: Global, places: usize) -> Result<List<bool>, NoMem>
-    ensures { IfOk result (λ row. row ≡ replicate places false) }
+/// The marks that one walk over the declarations finds. Where no declarations stand in a circle
+/// these are all.
+fn first_marks(alloc: Global, decls: &[TypeDecl]) -> Result<List<List<bool>>, NoMem>
+    ensures { IfOk result (λ rows. spec.HasShape decls.now rows × spec.AreSound decls.now rows) }
+{
+    let full = equal_rows(alloc, decls, true)?;
+    let order = leaves_first(alloc, decls, full.as_slice())?;
+    let mut rows = equal_rows(alloc, decls, false)?;
+    for decl in order.as_slice() {
+        settle(alloc, decls, *decl, &mut rows)?;
+    }
+    Ok(rows)
+}
+
+/// A row of places that all have a mark, or have none.
+pub(crate) fn equal_row(alloc: Global, places: usize, mark: bool) -> Result<List<bool>, NoMem>
+    ensures { IfOk result (λ row. row ≡ replicate places mark) }
 {
     let mut row = List::new(alloc);
     for _place in 0..places {
-        row.push(false)?;
+        row.push(mark)?;
     }
     Ok(row)
 }
 
-fn blank_rows(alloc: Global, decls: &[TypeDecl]) -> Result<List<List<bool>>, NoMem>
-    ensures { IfOk result (λ rows. rows ≡ map (λ decl. replicate (length decl.params) false) decls.now) }
+fn equal_rows(alloc: Global, decls: &[TypeDecl], mark: bool) -> Result<List<List<bool>>, NoMem>
+    ensures { IfOk result (λ rows. rows ≡ map (λ decl. replicate (length decl.params) mark) decls.now) }
 {
     let mut rows = List::new(alloc);
     for decl in decls {
-        rows.push(blank_row(alloc, decl.params.len())?)?;
+        rows.push(equal_row(alloc, decl.params.len(), mark)?)?;
     }
     Ok(rows)
+}
+
+/// Marks the type parameters that a declaration has outside Box by the marks.
+fn settle(
+    alloc: Global,
+    decls: &[TypeDecl],
+    decl: usize,
+    rows: &mut List<List<bool>>,
+) -> Result<(), NoMem>
+    requires shape { spec.HasShape decls.now rows.old }
+    requires sound { spec.AreSound decls.now rows.old }
+    ensures { OnOk result (spec.HasShape decls.now rows.new × spec.AreSound decls.now rows.new) }
+{
+    let Some(found) = at(decls, decl) else {
+        return Ok(());
+    };
+    let parts = parts_of(alloc, rows.as_slice(), found)?;
+    for part in parts.as_slice() {
+        if let Some(number) = unmarked_place(row_of(rows.as_slice(), decl), *part) {
+            mark(rows, decl, number);
+        }
+    }
+    Ok(())
 }
 
 /// The marks of a declared type.

@@ -8,7 +8,11 @@ use std::alloc::Global;
 /// The declarations, each after those that stand in its fields outside Box by the marks. Those in a
 /// circle, and those that wait for one, are left out. No clause rests on this order: who walks the
 /// declarations in it has less to do again.
-pub(crate) fn leaves_first(alloc: Global, decls: &[TypeDecl], rows: &[List<bool>]) -> Result<List<usize>, NoMem> {
+pub(crate) fn leaves_first(
+    alloc: Global,
+    decls: &[TypeDecl],
+    rows: &[List<bool>],
+) -> Result<List<usize>, NoMem> {
     let mut users = List::new(alloc);
     for _decl in decls {
         users.push(List::new(alloc))?;
@@ -50,7 +54,11 @@ fn enter(parts: &[Part], user: usize, users: &mut List<List<usize>>) -> Result<u
 }
 
 /// One declaration less is waited for; those that wait for none any more come next.
-fn release(waiting: &[usize], waits: &mut List<usize>, order: &mut List<usize>) -> Result<(), NoMem> {
+fn release(
+    waiting: &[usize],
+    waits: &mut List<usize>,
+    order: &mut List<usize>,
+) -> Result<(), NoMem> {
     for user in waiting {
         let user = *user;
         if let Some(wait) = waits.get_mut(user) {

@@ -5,7 +5,7 @@ ghost use Rattle.std.specs.List.{Contains};
 ghost use Rattle.core_ty.specs.Marks as spec;
 
 use crate::TypeDecl;
-use crate::marks::blank_row;
+use crate::marks::equal_row;
 use crate::parts::{Part, is_set, parts_of};
 use aen_base::{List, NoMem};
 use std::alloc::Global;
@@ -22,8 +22,8 @@ pub(crate) fn reach(
     requires sound { spec.AreSound decls.now rows.now }
     ensures { IfOk result (λ seen. spec.IsReach decls.now rows.now start seen) }
 {
-    let mut seen = blank_row(alloc, decls.len())?;
-    let mut done = blank_row(alloc, decls.len())?;
+    let mut seen = equal_row(alloc, decls.len(), false)?;
+    let mut done = equal_row(alloc, decls.len(), false)?;
     see_parts(alloc, rows, &decls[start], &mut seen)?;
     while let Some(next) = pending(&seen, &done) {
         done.set(next, true);

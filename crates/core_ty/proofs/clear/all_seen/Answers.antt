@@ -1,4 +1,3 @@
-use Rattle.std.proofs.Common.{◌<◌, length}
 use Rattle.std.proofs.lemmas.List.Elements.{All-more}
 use Rattle.core_ty.specs.Marks.{IsSeen}
 use Rattle.core_ty.specs.declared.parts.Part.TheVariants.{Parameter}
@@ -7,4 +6,4 @@ use Rattle.core_ty.proofs.clear.all_seen.Goals as goal
 pub loop-part-preserved : goal.loop-part-preserved
 loop-part-preserved c =
     All-more (IsSeen c.args.marks.now) c.args.parts.now c.loop-part.part-index (Parameter 0) c.loop-part-test.true c.loop-part.invariant
-        (c.is_seen.ensures.0 c.if-not-is_seen.false)
+    (c.is_seen.ensures.0 c.if-not-is_seen.false)

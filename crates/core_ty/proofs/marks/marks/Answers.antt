@@ -1,8 +1,5 @@
-use Rattle.core_ty.proofs.Tables.{blank_fits, turn_fits, turn_falls}
+use Rattle.core_ty.proofs.Tables.{turn_fits, turn_falls}
 use Rattle.core_ty.proofs.marks.marks.Goals as goal
-
-pub loop-rows-init : goal.loop-rows-init
-loop-rows-init c = blank_fits c.args.decls.now c.in_ok-rows.rows c.in_ok-rows.ensures
 
 pub loop-rows-smaller : goal.loop-rows-smaller
 loop-rows-smaller c =
