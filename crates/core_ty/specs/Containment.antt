@@ -1,5 +1,5 @@
 -- What a type contains outside Box (LANGUAGE.md, "Types").
-use Rattle.std.specs.Prelude.{◌≡◌, ℕ, ◌+◌, ◌<◌, Bool, true, if◌then◌else◌, List, [], ◌∷◌, ◌++◌, length, slice_get, Some, Result, Ok, Err}
+use Rattle.std.specs.Prelude.{◌≡◌, ℕ, ◌+◌, ◌<◌, ◌≤◌, ◌^◌, Bool, true, if◌then◌else◌, List, [], ◌∷◌, ◌++◌, length, slice_get, Some, Result, Ok, Err}
 use Rattle.std.specs.List.{All}
 use Rattle.aen_base.specs.declared.ids.TypeId.{TypeId}
 use Rattle.core_ty.specs.declared.decl.Variant.{Variant}
@@ -76,7 +76,7 @@ IsVerdict ds (Err (EndlessType d)) =
     (d.0 < length ds) × IsEndless ds d.0 × ((e : ℕ) → e < d.0 → IsEndless ds e → ⊥)
 IsVerdict ds (Err Memory) = Unit {0}
 
--- the fault names declaration d, or memory ran out
+-- the fault names declaration d; one without a 32-bit number has no room in memory
 abbrev pub IsNamed : DeclFault → ℕ → Type 0
 IsNamed (EndlessType e) d = e.0 ≡ d
-IsNamed Memory d = Unit {0}
+IsNamed Memory d = 2 ^ 32 ≤ d
