@@ -1,0 +1,198 @@
+ghost use Rattle.std.specs.Prelude.{◌≡◌, ◌<◌, ℕ, length, IfOk};
+ghost use Rattle.std.specs.Bool.{MatchBool};
+ghost use Rattle.core_ty.specs.Marks as spec;
+ghost use Rattle.core_ty.specs.Containment.{IsEndless, IsNamed, IsVerdict};
+
+use crate::TypeDecl;
+use crate::clear::clear;
+use crate::marks::marks;
+use crate::parts::is_set;
+use crate::search::reach;
+use aen_base::{List, NoMem, TypeId};
+use std::alloc::Global;
+use thiserror::Error;
+
+/// What is wrong with a list of declarations.
+#[derive(Clone, Copy, Debug, PartialEq, Eq, Error)]
+pub enum DeclFault {
+    /// This type contains itself outside Box.
+    #[error("a type contains itself")]
+    EndlessType(TypeId),
+    /// Want of memory.
+    #[error("out of memory")]
+    Memory,
+}
+
+impl From<NoMem> for DeclFault {
+    ghost use Rattle.core_ty.specs.declared.endless.DeclFault.TheVariants.{Memory};
+
+    ghost from_gives = { λ _ f. f ≡ Memory };
+
+    fn from(_: NoMem) -> DeclFault {
+        DeclFault::Memory
+    }
+}
+
+/// Looks for a type that contains itself outside Box, where an argument of a declared type counts as
+/// far as the declaration has its parameter outside Box. `EndlessType` comes exactly where there is
+/// one, and names the first; `Memory` is want of memory.
+pub fn check_decls(alloc: Global, decls: &[TypeDecl]) -> Result<(), DeclFault>
+    ensures { IsVerdict decls.now result }
+{
+    let rows = marks(alloc, decls)?;
+    let clear = clear(alloc, decls, rows.as_slice())?;
+    for decl in 0..decls.len() {
+        if contains_itself(alloc, decls, rows.as_slice(), clear.as_slice(), decl)? {
+            return Err(named(decl));
+        }
+    }
+    Ok(())
+}
+
+/// Whether a declaration contains itself outside Box. The only error is want of memory.
+fn contains_itself(
+    alloc: Global,
+    decls: &[TypeDecl],
+    rows: &[List<bool>],
+    clear: &[bool],
+    decl: usize,
+) -> Result<bool, NoMem>
+    requires within { decl < length decls.now }
+    requires shape { spec.HasShape decls.now rows.now }
+    requires sound { spec.AreSound decls.now rows.now }
+    requires complete { (d : ℕ) → spec.IsComplete decls.now rows.now d }
+    requires clear { spec.IsClear decls.now rows.now clear.now }
+    ensures { IfOk result (λ b. MatchBool b (IsEndless decls.now decl) (IsEndless decls.now decl → ⊥)) }
+{
+    if is_set(clear, decl) {
+        return Ok(false);
+    }
+    let seen = reach(alloc, decls, rows, decl)?;
+    Ok(is_set(seen.as_slice(), decl))
+}
+
+/// The fault at a type. More than 2 ^ 32 declarations have no room in memory.
+fn named(decl: usize) -> DeclFault
+    ensures { IsNamed result decl }
+{
+    match u32::try_from(decl) {
+        Ok(number) => DeclFault::EndlessType(TypeId(number)),
+        Err(_) => DeclFault::Memory,
+    }
+}
+
+#[cfg(test)]
+mod tests {
+    use super::{DeclFault, check_decls};
+    use crate::{Ty, TyNode, TypeDecl, Variant};
+    use aen_base::{Boxed, IntTy, List, Name, NoMem, Span, TypeId};
+    use std::alloc::Global;
+    use std::test::Fail;
+
+    fn parameter() -> Ty {
+        Ty {
+            node: TyNode::Param(0),
+        }
+    }
+
+    fn plain(number: u32, alloc: Global) -> Ty {
+        Ty {
+            node: TyNode::Named(TypeId(number), List::new(alloc)),
+        }
+    }
+
+    fn applied(alloc: Global, number: u32, arg: Ty) -> Result<Ty, NoMem> {
+        let mut args = List::new(alloc);
+        args.push(arg)?;
+        Ok(Ty {
+            node: TyNode::Named(TypeId(number), args),
+        })
+    }
+
+    fn boxed(alloc: Global, ty: Ty) -> Result<Ty, NoMem> {
+        Ok(Ty {
+            node: TyNode::Boxed(Boxed::new(alloc, ty)?),
+        })
+    }
+
+    fn pair(alloc: Global, ty: Ty) -> Result<Ty, NoMem> {
+        let mut parts = List::new(alloc);
+        parts.push(Ty {
+            node: TyNode::Int(IntTy::U8),
+        })?;
+        parts.push(ty)?;
+        Ok(Ty {
+            node: TyNode::Tuple(parts),
+        })
+    }
+
+    /// A struct with one type parameter and one field of this type.
+    fn declare(alloc: Global, decls: &mut List<TypeDecl>, field: Ty) -> Result<(), NoMem> {
+        let mut fields = List::new(alloc);
+        fields.push((Name::from_str(alloc, "0")?, field))?;
+        let mut variants = List::new(alloc);
+        variants.push(Variant {
+            name: Name::from_str(alloc, "S")?,
+            fields,
+        })?;
+        let mut params = List::new(alloc);
+        params.push(Name::from_str(alloc, "T")?)?;
+        decls.push(TypeDecl {
+            name: Name::from_str(alloc, "S")?,
+            span: Span { lo: 0, hi: 0 },
+            params,
+            is_struct: true,
+            variants,
+        })
+    }
+
+    #[test]
+    fn endless_types(rt: HostRuntime) -> Result<(), Fail> {
+        let alloc = rt.alloc();
+        // an argument that stands in no field outside Box
+        let mut decls = List::new(alloc);
+        declare(alloc, &mut decls, boxed(alloc, parameter())?)?;
+        declare(alloc, &mut decls, applied(alloc, 0, parameter())?)?;
+        declare(alloc, &mut decls, applied(alloc, 1, plain(2, alloc))?)?;
+        assert_eq!(rt; check_decls(alloc, decls.as_slice()), Ok(()));
+        // one that does
+        let mut decls = List::new(alloc);
+        declare(alloc, &mut decls, parameter())?;
+        declare(alloc, &mut decls, applied(alloc, 0, parameter())?)?;
+        declare(alloc, &mut decls, applied(alloc, 1, plain(2, alloc))?)?;
+        assert_eq!(rt;
+            check_decls(alloc, decls.as_slice()),
+            Err(DeclFault::EndlessType(TypeId(2)))
+        );
+        // itself in a tuple
+        let mut decls = List::new(alloc);
+        declare(alloc, &mut decls, pair(alloc, plain(0, alloc))?)?;
+        assert_eq!(rt;
+            check_decls(alloc, decls.as_slice()),
+            Err(DeclFault::EndlessType(TypeId(0)))
+        );
+        // a type that only contains an endless one, and then the endless one
+        let mut decls = List::new(alloc);
+        declare(alloc, &mut decls, plain(1, alloc))?;
+        declare(alloc, &mut decls, plain(1, alloc))?;
+        assert_eq!(rt;
+            check_decls(alloc, decls.as_slice()),
+            Err(DeclFault::EndlessType(TypeId(1)))
+        );
+        // a circle, with a Box in it and without
+        let mut decls = List::new(alloc);
+        declare(alloc, &mut decls, plain(1, alloc))?;
+        declare(alloc, &mut decls, plain(2, alloc))?;
+        declare(alloc, &mut decls, boxed(alloc, plain(0, alloc))?)?;
+        assert_eq!(rt; check_decls(alloc, decls.as_slice()), Ok(()));
+        let mut decls = List::new(alloc);
+        declare(alloc, &mut decls, plain(1, alloc))?;
+        declare(alloc, &mut decls, plain(2, alloc))?;
+        declare(alloc, &mut decls, plain(0, alloc))?;
+        assert_eq!(rt;
+            check_decls(alloc, decls.as_slice()),
+            Err(DeclFault::EndlessType(TypeId(0)))
+        );
+        Ok(())
+    }
+}
