@@ -1,0 +1,8 @@
+//! Computes the answer of a definition of a printed text on its arguments (docs/TEXT.md, "Meaning").
+//! Pending work stands in a vector, so that neither the fuel nor the length of a definition's code
+//! takes stack; only the depth of a term or of a value does.
+#![tactic(auto)]
+
+mod copies;
+mod terms;
+mod variables;
