@@ -3,6 +3,15 @@
 //! takes stack; only the depth of a term or of a value does.
 #![tactic(auto)]
 
+mod arms;
+mod computation;
 mod copies;
+mod evaluation;
+mod frames;
+mod operands;
+mod primitives;
 mod terms;
+mod turns;
 mod variables;
+
+pub use evaluation::eval;

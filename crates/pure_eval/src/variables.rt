@@ -1,8 +1,9 @@
-ghost use Rattle.std.specs.Prelude.{◌≡◌, ℕ, [], OnOk};
+ghost use Rattle.std.specs.Prelude.{◌≡◌, ℕ, [], OnOk, IfOk};
 ghost use Rattle.std.specs.Option.{option_copied};
 ghost use Rattle.text_meaning.specs.Environment as spec;
 ghost use Rattle.pure_eval.specs.Ascending.{Ascends};
 
+use crate::copies::copy_value;
 use aen_base::{List, NoMem, at};
 use pure_ast::PValue;
 use std::alloc::Global;
@@ -59,6 +60,21 @@ impl Variables {
             self.ascending = false;
         }
         Ok(())
+    }
+
+    /// A copy of the variables. The only error is want of memory.
+    pub(crate) fn try_clone(&self, alloc: Global) -> Result<Variables, NoMem>
+        ensures { IfOk result (λ v. v ≡ self.now) }
+    {
+        let mut entries = List::new(alloc);
+        for entry in self.entries.as_slice() {
+            entries.push((entry.0, copy_value(alloc, &entry.1)?))?;
+        }
+        Ok(Variables {
+            entries,
+            ascending: self.ascending,
+            bound: self.bound,
+        })
     }
 
     /// The newest value of a variable; None exactly where it has none.
