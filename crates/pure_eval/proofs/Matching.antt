@@ -1,14 +1,14 @@
 -- Which patterns fit, and what their variables then are.
-use Rattle.std.proofs.Common.{◌≡◌, ℕ, zero, suc, ◌+◌, ◌<◌, Bool, true, false, List, [], ◌∷◌, ◌++◌, reverse, length, get_or, append_assoc, append-nil, refl, sym, ap, ◌∙◌, subst, arith, add-one, drop, drop-cons, ne_eqb, eq-eqb}
+use Rattle.std.proofs.Common.{◌≡◌, ℕ, zero, suc, ◌+◌, ◌<◌, Bool, true, false, List, [], ◌∷◌, ◌++◌, reverse, length, get_or, append_assoc, refl, sym, ap, ◌∙◌, subst, arith, add-one, drop, drop-cons, ne_eqb}
 use Rattle.std.proofs.lemmas.List.{reverse-append, reverse-reverse}
 use Rattle.std.proofs.Math.Dec.{eqb-suc-suc}
-use Rattle.std.specs.Prelude.{Option, Some, None, ◌==◌, slice_get, if◌then◌else◌}
+use Rattle.std.specs.Prelude.{Option, Some, None, ◌==◌, if◌then◌else◌}
 use Rattle.std.specs.Option.{is_some, option_map}
 use Rattle.pure_ast.specs.declared.ctor.CtorId.{CtorId}
 use Rattle.pure_ast.specs.declared.pat.Pat.{Pat}
 use Rattle.pure_ast.specs.declared.pat.Pat.TheVariants as P
 use Rattle.pure_ast.specs.Code.{Code, arms, nodes_code, nodes_arms}
-use Rattle.pure_ast.specs.Values.{PValue, tuple, built, pvalues, pvalues_list, pvalues_back}
+use Rattle.pure_ast.specs.Values.{PValue, tuple, built, pvalues, pvalues_back}
 use Rattle.text_meaning.specs.Environment.{Environment, with_value}
 use Rattle.text_meaning.specs.Patterns.{bound, fits, same_ctor}
 

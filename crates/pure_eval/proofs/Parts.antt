@@ -1,5 +1,5 @@
 -- The parts of a value or of a term are smaller than the whole.
-use Rattle.std.proofs.Common.{◌≡◌, ℕ, zero, suc, ◌+◌, ◌<◌, List, [], ◌∷◌, length, get_or, subst, sym, arith}
+use Rattle.std.proofs.Common.{◌≡◌, ℕ, zero, suc, ◌<◌, List, [], ◌∷◌, length, get_or, subst, sym, arith}
 use Rattle.pure_ast.specs.Values.{PValue, pvalues, nodes_pvalue, nodes_pvalues}
 use Rattle.pure_ast.specs.Terms.{Term, terms, nodes_term, nodes_terms}
 

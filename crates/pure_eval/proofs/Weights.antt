@@ -1,7 +1,8 @@
 -- The cost of a call, and of a stack with one frame more.
-use Rattle.std.proofs.Common.{◌≡◌, ℕ, zero, suc, ◌+◌, ◌-◌, ◌*◌, ◌≤◌, ◌<◌, List, [], ◌∷◌, ◌++◌, refl, sym, ap, ◌∙◌, subst, arith, mul-le-mul_right}
-use Rattle.std.specs.Prelude.{Some, None, slice_get}
-use Rattle.pure_ast.specs.Code.{nodes_code}
+use Rattle.std.proofs.Common.{◌≡◌, ℕ, zero, suc, ◌+◌, ◌-◌, ◌*◌, ◌≤◌, List, [], ◌∷◌, ◌++◌, refl, subst, arith, mul-le-mul_right}
+use Rattle.std.specs.Prelude.{Some, slice_get}
+use Rattle.pure_ast.specs.Code.{Code, Arms, put, select, bind_select, nodes_code, nodes_arms}
+use Rattle.pure_ast.specs.Terms.{Term}
 use Rattle.pure_ast.specs.declared.def.Def.{Def}
 use Rattle.pure_ast.specs.declared.def.Defs.{Defs}
 use Rattle.pure_eval.specs.declared.frames.Frame.{Frame}
@@ -42,3 +43,20 @@ call_costs defs i d (suc n) p h =
 pub stack_more : (defs : Defs) (frames : List Frame) (f : Frame) → stack_cost defs (frames ++ f ∷ []) ≡ stack_cost defs frames + state_cost defs f.rest
 stack_more defs [] f = omega arith
 stack_more defs (x ∷ frames) f = let h = stack_more defs frames f in omega arith
+
+-- what each form of code costs, by the cost of its parts
+put_spread : (a w : ℕ) → (a + 1) * w ≡ a * w + w
+put_spread a w = grind arith
+
+pub put_costs : (code rest : Code) (v : ℕ) (t : Term) (w : ℕ) → code ≡ put v t rest → nodes_code code * w ≡ nodes_code rest * w + w
+put_costs code rest v t w p = rw p (put_spread (nodes_code rest) w)
+
+pub select_costs : (code : Code) (t : Term) (all : Arms) (w : ℕ) → code ≡ select t all → nodes_code code * w ≡ nodes_arms all * w + w
+select_costs code t all w p = rw p (put_spread (nodes_arms all) w)
+
+both_spread : (a b w : ℕ) → (a + b + 1) * w ≡ a * w + b * w + w
+both_spread a b w = grind arith
+
+pub bind_select_costs : (code rest : Code) (v : ℕ) (t : Term) (all : Arms) (w : ℕ) → code ≡ bind_select v t all rest →
+    nodes_code code * w ≡ nodes_arms all * w + nodes_code rest * w + w
+bind_select_costs code rest v t all w p = rw p (both_spread (nodes_arms all) (nodes_code rest) w)

@@ -29,7 +29,7 @@ pub(crate) fn take_turn<'a>(
 {
     match step(alloc, defs, state, stack)? {
         Turn::Go(next) => Ok(Turn::Go(next)),
-        Turn::Done(answer) => resume(stack, answer),
+        Turn::Done(answer) => Ok(resume(stack, answer)?),
     }
 }
 
@@ -51,16 +51,19 @@ fn step<'a>(
     match &code.node {
         CodeNode::Bind(variable, comp, rest) => {
             let frame = pending(*variable, rest.get(), variables, fuel);
-            bind(alloc, defs, comp, frame, stack)
+            Ok(bind(alloc, defs, comp, frame, stack)?)
         }
         CodeNode::Let(variable, term, rest) => {
-            put(alloc, term, pending(*variable, rest.get(), variables, fuel))
+            let frame = pending(*variable, rest.get(), variables, fuel);
+            Ok(put(alloc, term, frame)?)
         }
-        CodeNode::Match(term, all) => select(alloc, term, all.as_slice(), variables, fuel),
-        CodeNode::Last(comp) => last(alloc, defs, comp, variables, fuel),
+        CodeNode::Match(term, all) => {
+            Ok(select(alloc, term, all.as_slice(), variables, fuel)?)
+        }
+        CodeNode::Last(comp) => Ok(last(alloc, defs, comp, variables, fuel)?),
         CodeNode::BindMatch(variable, term, all, rest) => {
             let frame = pending(*variable, rest.get(), variables, fuel);
-            bind_select(alloc, term, all.as_slice(), frame, stack)
+            Ok(bind_select(alloc, term, all.as_slice(), frame, stack)?)
         }
     }
 }
@@ -93,7 +96,7 @@ fn bind<'a>(
     let fuel = frame.rest.fuel;
     let ran = run_comp(alloc, &frame.rest.variables, comp)?;
     stack.push(frame)?;
-    call(alloc, defs, ran, fuel)
+    Ok(call(alloc, defs, ran, fuel)?)
 }
 
 /// A variable for a term.
@@ -144,7 +147,7 @@ fn last<'a>(
     ensures cost { IfOk result (λ t. costs.turn_cost defs.now t + 1 ≤ costs.weight (costs.longest defs.now) fuel) }
 {
     let ran = run_comp(alloc, &variables, comp)?;
-    call(alloc, defs, ran, fuel)
+    Ok(call(alloc, defs, ran, fuel)?)
 }
 
 /// A bind of a match's value: the match's code has a copy of the variables.

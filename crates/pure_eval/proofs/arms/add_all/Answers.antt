@@ -1,5 +1,5 @@
 -- The next variable takes the next value.
-use Rattle.std.proofs.Common.{◌≡◌, ◌++◌, refl, sym, ap, ◌∙◌}
+use Rattle.std.proofs.Common.{◌++◌, refl, sym, ap, ◌∙◌}
 use Rattle.text_meaning.specs.Environment.{Environment}
 use Rattle.pure_eval.proofs.Matching.{add_start, add_stop, add_step}
 use Rattle.pure_eval.proofs.arms.add_all.Goals as goal

@@ -1,5 +1,4 @@
 -- The arm that fits is smaller than all arms.
-use Rattle.std.proofs.Common.{◌≡◌}
 use Rattle.pure_eval.proofs.Matching.{arm_part}
 use Rattle.pure_eval.proofs.arms.first_fit.Goals as goal
 

@@ -1,5 +1,5 @@
 -- A part is smaller than the value.
-use Rattle.std.proofs.Common.{◌≡◌, ◌<◌, arith}
+use Rattle.std.proofs.Common.{arith}
 use Rattle.pure_eval.proofs.Parts.{value_part}
 use Rattle.pure_eval.proofs.copies.+copy.Goals as goal
 

@@ -1,5 +1,5 @@
 -- The newest bind takes an answer that is Ok; any other is the answer of all.
-use Rattle.std.proofs.Common.{◌≡◌, ◌≤◌, refl, arith}
+use Rattle.std.proofs.Common.{refl, arith}
 use Rattle.pure_eval.proofs.Meanings.{unwind_more, unwind_failed}
 use Rattle.pure_eval.proofs.Weights.{stack_more}
 use Rattle.pure_eval.proofs.frames.resume.Goals as goal

@@ -1,5 +1,5 @@
 -- An operator on two numbers of one type.
-use Rattle.std.proofs.Common.{◌≡◌, refl, sym, ◌∙◌}
+use Rattle.std.proofs.Common.{refl, sym, ◌∙◌}
 use Rattle.text_meaning.specs.Primitives.{operated}
 use Rattle.pure_eval.proofs.Operations.{no_shift, on_two}
 use Rattle.pure_eval.proofs.primitives.arithmetic.Goals as goal

@@ -1,5 +1,5 @@
 -- A part is smaller than the term.
-use Rattle.std.proofs.Common.{◌≡◌, ◌<◌, arith}
+use Rattle.std.proofs.Common.{arith}
 use Rattle.pure_eval.proofs.Parts.{term_part}
 use Rattle.pure_eval.proofs.terms.+terms.Goals as goal
 

@@ -1,6 +1,6 @@
 -- The middle entry has the variable, or tells on which side of it the variable stands.
-use Rattle.std.proofs.Common.{◌≡◌, ℕ, suc, ◌+◌, ◌-◌, ◌/◌, ◌<◌, ◌≤◌, length, take, drop, sym, subst, add-one, arith}
-use Rattle.std.specs.Prelude.{Some, None, slice_get}
+use Rattle.std.proofs.Common.{◌≡◌, ℕ, ◌+◌, ◌-◌, ◌/◌, ◌<◌, sym, subst, add-one, arith}
+use Rattle.std.specs.Prelude.{Some}
 use Rattle.text_meaning.specs.Environment.{lookup}
 use Rattle.pure_eval.proofs.Lookups.{hit, none_to, none_from, none_join}
 use Rattle.pure_eval.proofs.variables.halved.Goals as goal

@@ -1,5 +1,5 @@
 -- The last entry that is left has the variable, or it may be left out.
-use Rattle.std.proofs.Common.{◌≡◌, suc, ◌-◌, ◌≤◌, ◌∙◌, length, sym, arith}
+use Rattle.std.proofs.Common.{◌≡◌, suc, ◌-◌, ◌∙◌, sym, arith}
 use Rattle.pure_eval.proofs.Lookups.{newest_hit, newest_other}
 use Rattle.pure_eval.proofs.variables.newest.Goals as goal
 

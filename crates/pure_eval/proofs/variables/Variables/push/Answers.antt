@@ -1,5 +1,5 @@
 -- Numbers still ascend with a greater one at the end.
-use Rattle.std.proofs.Common.{◌≡◌, ◌≤◌, add-one, arith}
+use Rattle.std.proofs.Common.{◌≤◌, add-one, arith}
 use Rattle.pure_eval.proofs.Lookups.{ascends_more}
 use Rattle.pure_eval.proofs.variables.Variables.push.Goals as goal
 
