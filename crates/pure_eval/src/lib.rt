@@ -11,6 +11,8 @@ mod frames;
 mod operands;
 mod primitives;
 mod terms;
+#[cfg(test)]
+mod tests;
 mod turns;
 mod variables;
 
