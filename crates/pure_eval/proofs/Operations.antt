@@ -24,7 +24,6 @@ zip_none : {A C : Type 0} (o : Option A) (x : A × C) → option_zip o None ≡ 
 zip_none None x p = cc
 zip_none (Some y) x p = cc
 
-
 module _ (f : Number → Number → Answer) (a b : Number) where
   by_types : (s r : Bool) (m n : Number) → option_zip (if s then Some m else None) (if r then Some n else None) ≡ Some (a, b) →
       (if s && r then f m n else A.Stuck) ≡ f a b

@@ -22,7 +22,6 @@ unfoldable pub weight : ℕ → ℕ → ℕ
 weight k zero = 1
 weight k (suc n) = k * weight k n + 1
 
-
 abbrev pub state_cost : Defs → State → ℕ
 state_cost defs s = nodes_code s.code.now * weight (longest defs) s.fuel
 

@@ -18,11 +18,7 @@ pub(crate) enum Ran {
 }
 
 /// Runs a computation up to its call. The only error is want of memory.
-pub(crate) fn run_comp(
-    alloc: Global,
-    variables: &Variables,
-    comp: &Comp,
-) -> Result<Ran, NoMem>
+pub(crate) fn run_comp(alloc: Global, variables: &Variables, comp: &Comp) -> Result<Ran, NoMem>
     ensures { IfOk result (λ r. (calls : Calls) → comp_answer calls variables.now comp.now ≡ ran_answer calls r) }
 {
     match comp {

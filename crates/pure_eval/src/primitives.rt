@@ -4,8 +4,8 @@ ghost use Rattle.text_meaning.specs.Primitives as spec;
 
 use crate::operands::{both, one_number, one_truth, only, shift_numbers, two_numbers, two_truths};
 use aen_base::{
-    BinOp, Builtin, CmpOp, IntTy, List, Num, PanicKind, RegionId, cast, checked, compare, from_bool, invert,
-    negate,
+    BinOp, Builtin, CmpOp, IntTy, List, Num, PanicKind, RegionId, cast, checked, compare,
+    from_bool, invert, negate,
 };
 use pure_ast::{BoolOp, PValue, Primitive};
 use std::alloc::Global;

@@ -4,9 +4,7 @@ ghost use Rattle.std.specs.Prelude.{◌≡◌};
 
 use crate::eval;
 use aen_base::{BinOp, CmpOp, DefId, FnId, IntTy, List, LoopId, NoMem, Num, PanicKind, num};
-use pure_ast::{
-    Code, Comp, Def, DefKind, Defs, PTy, PValue, PValueNode, Pat, Primitive, Term,
-};
+use pure_ast::{Code, Comp, Def, DefKind, Defs, PTy, PValue, PValueNode, Pat, Primitive, Term};
 use std::alloc::Global;
 use std::test::Fail;
 use text_meaning::Answer;
@@ -55,7 +53,13 @@ fn defs_of(alloc: Global, kind: DefKind, code: Code) -> Result<Defs, NoMem> {
 
 /// `v1 ← U32.add v0 1; ok v1`
 fn add_one(alloc: Global) -> Result<Defs, NoMem> {
-    let sum = arith(alloc, IntTy::U32, BinOp::Add, Term::var(0), literal(IntTy::U32, 1))?;
+    let sum = arith(
+        alloc,
+        IntTy::U32,
+        BinOp::Add,
+        Term::var(0),
+        literal(IntTy::U32, 1),
+    )?;
     let code = Code::bind(alloc, 1, sum, Code::last(Comp::Ok(Term::var(1))))?;
     defs_of(alloc, DefKind::Forward(FnId(0)), code)
 }

@@ -57,9 +57,7 @@ fn step<'a>(
             let frame = pending(*variable, rest.get(), variables, fuel);
             Ok(put(alloc, term, frame)?)
         }
-        CodeNode::Match(term, all) => {
-            Ok(select(alloc, term, all.as_slice(), variables, fuel)?)
-        }
+        CodeNode::Match(term, all) => { Ok(select(alloc, term, all.as_slice(), variables, fuel)?) }
         CodeNode::Last(comp) => Ok(last(alloc, defs, comp, variables, fuel)?),
         CodeNode::BindMatch(variable, term, all, rest) => {
             let frame = pending(*variable, rest.get(), variables, fuel);

@@ -16,5 +16,5 @@ pub loop-name-preserved : goal.loop-name-preserved
 loop-name-preserved c = λ more p.
     let w = c.loop-name.invariant more p in
     let s = add_step c.args.names.now c.loop-name.name-index c.loop-name.left c.pop.new.self c.in-Some.value w.0 c.loop-name.variables more
-        c.loop-name-test.true c.in-Some.ensures w.1 in
+    c.loop-name-test.true c.in-Some.ensures w.1 in
     (s.0, s.1, w.2 ∙ s.2 ∙ ap (λ (env : Environment). env ++ s.0) (sym c.in_ok-push.ensures))

@@ -19,10 +19,10 @@ returns-in-Tuple-Tuple c =
     let node = ap value_of c.in-Tuple-Tuple.is-1 in
     let v : c.args.value ≡ tuple (pvalues c.in-Tuple-Tuple.parts) = cc in
     ok_weaker c.add_all.result
-      ((more : Environment) → bound c.as_slice.result.now c.in-Tuple-Tuple.parts ≡ Some more → c.add_all.new.variables ≡ c.args.variables.now ++ more)
-      ((more : Environment) → fits c.args.pattern.now c.args.value ≡ Some more → c.add_all.new.variables ≡ c.args.variables.now ++ more)
-      (λ h more p. h more (rw c.as_slice.ensures (tuple_adds c.args.pattern.now c.args.value c.in-Tuple-Tuple.names c.in-Tuple-Tuple.parts more c.in-Tuple-Tuple.is-0 v p)))
-      c.add_all.ensures
+    ((more : Environment) → bound c.as_slice.result.now c.in-Tuple-Tuple.parts ≡ Some more → c.add_all.new.variables ≡ c.args.variables.now ++ more)
+    ((more : Environment) → fits c.args.pattern.now c.args.value ≡ Some more → c.add_all.new.variables ≡ c.args.variables.now ++ more)
+    (λ h more p. h more (rw c.as_slice.ensures (tuple_adds c.args.pattern.now c.args.value c.in-Tuple-Tuple.names c.in-Tuple-Tuple.parts more c.in-Tuple-Tuple.is-0 v p)))
+    c.add_all.ensures
 
 pub returns-in-Ctor-Ctor : goal.returns-in-Ctor-Ctor
 returns-in-Ctor-Ctor c =
@@ -31,7 +31,7 @@ returns-in-Ctor-Ctor c =
     let node = ap value_of a.is-1 in
     let v : c.args.value ≡ built a.field-0-1 (pvalues a.parts) = cc in
     ok_weaker c.add_all-in-Ctor-Ctor.result
-      ((more : Environment) → bound c.as_slice-in-Ctor-Ctor.result.now a.parts ≡ Some more → c.add_all-in-Ctor-Ctor.new.variables ≡ c.args.variables.now ++ more)
-      ((more : Environment) → fits c.args.pattern.now c.args.value ≡ Some more → c.add_all-in-Ctor-Ctor.new.variables ≡ c.args.variables.now ++ more)
-      (λ h more p. h more (rw c.as_slice-in-Ctor-Ctor.ensures (built_adds c.args.pattern.now c.args.value a.field-0-0 a.field-0-1 a.names a.parts more a.is-0 v p)))
-      c.add_all-in-Ctor-Ctor.ensures
+    ((more : Environment) → bound c.as_slice-in-Ctor-Ctor.result.now a.parts ≡ Some more → c.add_all-in-Ctor-Ctor.new.variables ≡ c.args.variables.now ++ more)
+    ((more : Environment) → fits c.args.pattern.now c.args.value ≡ Some more → c.add_all-in-Ctor-Ctor.new.variables ≡ c.args.variables.now ++ more)
+    (λ h more p. h more (rw c.as_slice-in-Ctor-Ctor.ensures (built_adds c.args.pattern.now c.args.value a.field-0-0 a.field-0-1 a.names a.parts more a.is-0 v p)))
+    c.add_all-in-Ctor-Ctor.ensures

@@ -29,7 +29,7 @@ pub returns-clause-meaning : goal.returns-clause-meaning
 returns-clause-meaning c =
     let some : slice_get c.args.defs.now.defs c.args.def.0 ≡ Some c.in-Some.definition.now = rw c.as_slice.ensures at (sym c.in-Some.ensures) in
     call_enters c.args.defs.now c.args.def.0 c.args.values c.args.fuel c.in-Some.definition.now some c.if-fuel-eq0.false
-      ∙ ap (λ (env : Environment). code_answer (calls_at c.args.defs.now (c.args.fuel - 1)) env c.in-Some.definition.now.code) (sym c.in_ok-arguments.ensures)
+    ∙ ap (λ (env : Environment). code_answer (calls_at c.args.defs.now (c.args.fuel - 1)) env c.in-Some.definition.now.code) (sym c.in_ok-arguments.ensures)
 
 pub returns-clause-cost : goal.returns-clause-cost
 returns-clause-cost c =

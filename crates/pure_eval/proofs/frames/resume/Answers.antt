@@ -19,5 +19,5 @@ returns-in_ok-take_value-in-Some-clause-cost c = λ defs.
 pub returns-in_default : goal.returns-in_default
 returns-in_default c = record {
   meaning = λ defs. unwind_failed defs c.args.stack.now c.args.answer c.in_default.not-Ok;
-  cost = λ defs. omega arith
+  cost = λ defs. omega arith;
 }

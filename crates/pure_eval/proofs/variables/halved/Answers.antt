@@ -24,7 +24,7 @@ loop-low-preserved-then-entry-variable-2 c =
       ordered = omega arith;
       within = c.loop-low.invariant.within;
       below = rw add-one none;
-      above = c.loop-low.invariant.above
+      above = c.loop-low.invariant.above;
     }
 
 pub loop-low-preserved : goal.loop-low-preserved
@@ -37,7 +37,7 @@ loop-low-preserved c =
       ordered = omega arith;
       within = omega arith;
       below = c.loop-low.invariant.below;
-      above = none_from 0 c.requires.0 env middle e c.args.variable c.requires.1 (sym c.in-Some.ensures) less
+      above = none_from 0 c.requires.0 env middle e c.args.variable c.requires.1 (sym c.in-Some.ensures) less;
     }
 
 pub returns : goal.returns

@@ -9,7 +9,7 @@ invariant-loop-low l = record {
   ordered : l.low ≤ l.high;
   within : l.high ≤ length l.entries;
   below : lookup (take l.low l.entries) l.variable ≡ None;
-  above : lookup (drop l.high l.entries) l.variable ≡ None
+  above : lookup (drop l.high l.entries) l.variable ≡ None;
 }
 
 abbrev pub decreases-loop-low : goal.decreases-loop-low

@@ -9,7 +9,7 @@ returns-then-entry-variable c =
     let k = c.loop-left.left in
     let one : k ≡ suc (k - 1) = omega arith in
     sym (c.loop-left.invariant.same
-      ∙ newest_hit env k (k - 1) c.in-Some.entry.now c.args.variable (sym c.in-Some.ensures) one c.if-entry-variable.true)
+    ∙ newest_hit env k (k - 1) c.in-Some.entry.now c.args.variable (sym c.in-Some.ensures) one c.if-entry-variable.true)
 
 pub loop-left-preserved : goal.loop-left-preserved
 loop-left-preserved c =
@@ -19,5 +19,5 @@ loop-left-preserved c =
     record {
       within = omega arith;
       same = c.loop-left.invariant.same
-        ∙ newest_other env k (k - 1) c.in-Some.entry.now c.args.variable (sym c.in-Some.ensures) one c.if-entry-variable.false
+          ∙ newest_other env k (k - 1) c.in-Some.entry.now c.args.variable (sym c.in-Some.ensures) one c.if-entry-variable.false;
     }

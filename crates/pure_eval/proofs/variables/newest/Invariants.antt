@@ -6,7 +6,7 @@ use Rattle.pure_eval.proofs.variables.newest.Given as goal
 abbrev pub invariant-loop-left : goal.invariant-loop-left
 invariant-loop-left l = record {
   within : l.left ≤ length l.entries;
-  same : lookup l.entries l.variable ≡ lookup (take l.left l.entries) l.variable
+  same : lookup l.entries l.variable ≡ lookup (take l.left l.entries) l.variable;
 }
 
 abbrev pub decreases-loop-left : goal.decreases-loop-left
