@@ -1,0 +1,4 @@
+pub mod Ascending
+pub mod Unwinding
+pub mod Operands
+pub mod Costs
