@@ -3,3 +3,5 @@ pub mod Lending
 pub mod Numbers
 pub mod Arithmetic
 pub mod NumFields
+pub mod Wholes
+pub mod Operators

@@ -2,7 +2,15 @@
 //! names, spans, numbers of things, and want of memory.
 #![tactic(auto)]
 
+mod arithmetic;
+mod bits;
+mod bitwise;
 mod boxed;
+mod comparison;
+#[cfg(test)]
+mod edge_tests;
+#[cfg(test)]
+mod edge_values;
 mod ids;
 mod int_ty;
 mod limits;
@@ -11,10 +19,15 @@ mod memory;
 mod name;
 mod number;
 mod operators;
+mod ranges;
 mod span;
 mod text;
+mod whole;
 
+pub use arithmetic::{checked, negate};
+pub use bitwise::{cast, from_bool, invert};
 pub use boxed::Boxed;
+pub use comparison::compare;
 pub use ids::{AbsId, DefId, FnId, LoanId, LoopId, RegionId, StmtId, SymId, TypeId, VarId};
 pub use int_ty::IntTy;
 pub use limits::Which;
@@ -23,5 +36,6 @@ pub use memory::NoMem;
 pub use name::Name;
 pub use number::Num;
 pub use operators::{BinOp, Builtin, CmpOp, PanicKind};
+pub use ranges::num;
 pub use span::Span;
 pub use text::Text;

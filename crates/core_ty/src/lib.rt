@@ -1,0 +1,23 @@
+//! The types of the source language, their declarations and signatures.
+#![tactic(auto)]
+
+mod builtins;
+mod copy;
+mod decl;
+mod endless;
+mod parts;
+mod places;
+mod same;
+mod shape;
+mod substitution;
+mod ty;
+
+pub use builtins::builtin_sig;
+pub use copy::copy_tys;
+pub use endless::DeclFault;
+pub use decl::{Sig, TypeDecl, Variant};
+pub use places::{Position, positions};
+pub use same::same_tys;
+pub use shape::is_copy;
+pub use substitution::subst;
+pub use ty::{Ty, TyNode};
