@@ -1,0 +1,4 @@
+pub mod Values
+pub mod Given
+pub mod Spine
+pub mod Size
