@@ -20,6 +20,7 @@ use Rattle.source_meaning.specs.Calling as calling
 use Rattle.source_meaning.specs.Calling.{trees_of, outcome_of, value_of, call_outcome, IsU32Value, AreU32Values, AreArguments}
 use Rattle.pointer_machine.specs.Values as v
 use Rattle.pointer_machine.specs.Values.{Valued, call_value, numbers_of, outcome, begun}
+use Rattle.pointer_machine.specs.Outcomes.{IsU32Outcome}
 use Rattle.pointer_machine.proofs.Places.{get_left_some}
 use Rattle.pointer_machine.proofs.Ends.{Ends, AreU32}
 use Rattle.pointer_machine.proofs.Expressions.{SameCalls}
@@ -128,3 +129,28 @@ outcome_is p n k items f g args given o typed there all at_ numbers h is =
   let fits : AreArguments g args = subst (λ (x : Option Function). IsSomeAnd x (λ h. AreArguments h args)) is there in
   let same : f ≡ g = at_ ∙ ap (λ (l : List Function). get_or l k f) all ∙ got_or p.functions k f g is in
   h ∙ ap (begun p n k f.span) numbers ∙ ap (λ (x : Function). begun p n k x.span (numbers_of args)) same ∙ begun_is p n k g args typed is fits
+
+u32_outcome : (w : Memory → Memory) (r : Ran) (x : Valued) → Ends w r x → IsU32Outcome (outcome x)
+u32_outcome w (gives t m1) x (n, (above, (te, me, ve, u))) = subst (λ (y : Valued). IsU32Outcome (outcome y)) (sym ve) u
+u32_outcome w (panics k) x e = subst (λ (y : Valued). IsU32Outcome (outcome y)) (sym e) tt
+u32_outcome w more x e = subst (λ (y : Valued). IsU32Outcome (outcome y)) (sym e) tt
+u32_outcome w (stuck s) x e = subst (λ (y : Valued). IsU32Outcome (outcome y)) (sym e) tt
+
+begun_typed : (p : Program) (n k : ℕ) (f : Function) (args : List PValue) → IsTyped p → slice_get p.functions k ≡ Some f → AreArguments f args →
+  (s : Span) → IsU32Outcome (begun p n k s (numbers_of args))
+begun_typed p n k f args typed is fits s =
+  let given = numbers_are args fits.typed in
+  subst (λ (o : Option (List Number)). IsU32Outcome (begun p n k s o)) (sym given.given)
+    (u32_outcome (λ new. [] ++ new) (call_at p n s k (map num given.numbers) []) (call_value p n s k given.numbers)
+      ((all_same p typed n).each s k f given.numbers [] is given.u32 (given.count ∙ fits.count)))
+
+typed_by : (p : Program) (n k : ℕ) (args : List PValue) (found : Option Function) → slice_get p.functions k ≡ found → IsTyped p →
+  IsSomeAnd found (λ h. AreArguments h args) → (s : Span) → IsU32Outcome (begun p n k s (numbers_of args))
+typed_by p n k args None is typed there s = absurd there
+typed_by p n k args (Some f) is typed there s = begun_typed p n k f args typed is there s
+
+-- a value of a typed program is of type u32
+pub outcome_typed : (p : Program) (n k : ℕ) (s : Span) (args : List PValue) (given : Option (List Number)) (o : Outcome) → IsTyped p →
+  IsSomeAnd (slice_get p.functions k) (λ h. AreArguments h args) → given ≡ numbers_of args → o ≡ begun p n k s given → IsU32Outcome o
+outcome_typed p n k s args given o typed there numbers h =
+  subst IsU32Outcome (sym (h ∙ ap (begun p n k s) numbers)) (typed_by p n k args (slice_get p.functions k) refl typed there s)

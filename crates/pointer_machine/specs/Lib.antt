@@ -2,3 +2,4 @@ pub mod Values
 pub mod Given
 pub mod Spine
 pub mod Size
+pub mod Outcomes

@@ -63,10 +63,10 @@ fn begin(
 {
     match first {
         First::Number(number) => Ok(number),
-        First::Variable(span, id) => Ok(variable(variables, span, id)?),
+        First::Variable(span, id) => variable(variables, span, id),
         First::Call(span, function, items) => {
             let values = arguments(alloc, program, bound, variables, items)?;
-            Ok(call(alloc, program, bound, span, function, values)?)
+            call(alloc, program, bound, span, function, values)
         }
     }
 }
@@ -125,7 +125,7 @@ fn body(
     let statements = block.node.statements.as_slice();
     let variables = declare(alloc, program, bound, values, statements)?;
     match &block.node.last {
-        Some(value) => Ok(expression(alloc, program, bound, variables.as_slice(), value.get())?),
+        Some(value) => expression(alloc, program, bound, variables.as_slice(), value.get()),
         None => Err(Stop::Halted(Halt::Stuck(block.node.span))),
     }
 }

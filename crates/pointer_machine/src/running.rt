@@ -2,6 +2,7 @@ ghost use Rattle.std.specs.Prelude.{◌≡◌, slice_get, Some, IfOk, IsSomeAnd}
 ghost use Rattle.rust_ast.specs.declared.function.Function.{Function};
 ghost use Rattle.source_meaning.specs.Calling.{AreArguments, call_outcome};
 ghost use Rattle.source_meaning.specs.Typing.{IsTyped};
+ghost use Rattle.pointer_machine.specs.Outcomes.{IsU32Outcome};
 ghost use Rattle.pointer_machine.specs.Values as spec;
 
 use crate::calls::call;
@@ -51,8 +52,9 @@ fn outcome(
     }
 }
 
-/// Runs function `f` of a typed program on arguments of its parameters' types. A call nested more
-/// than `n` deep, the first one counted, makes the outcome `More`. The only error is want of memory.
+/// Runs function `f` of a typed program on arguments of its parameters' types, at a bound of `n`
+/// nested calls, this one counted: one call more makes the outcome `More`. The only error is want
+/// of memory.
 pub fn run(
     alloc: Global,
     program: &Program,
@@ -62,9 +64,60 @@ pub fn run(
 ) -> Result<Outcome, NoMem>
     requires typed { IsTyped program.now }
     requires there { IsSomeAnd (slice_get program.now.functions f.0) (λ g. AreArguments g args.now) }
-    ensures { IfOk result (λ o. (g : Function) → slice_get program.now.functions f.0 ≡ Some g → o ≡ call_outcome program.now f.0 g args.now n) }
+    ensures same { IfOk result (λ o. (g : Function) → slice_get program.now.functions f.0 ≡ Some g → o ≡ call_outcome program.now f.0 g args.now n) }
+    ensures u32 { IfOk result IsU32Outcome }
 {
     let function = &program.functions.as_slice()[f.0 as usize];
     let values = numbers(alloc, args)?;
     outcome(alloc, program, f, function.span, values, n)
+}
+
+#[cfg(test)]
+mod tests {
+    use super::*;
+    use aen_base::{BinOp, IntTy, Name, VarId, num};
+    use rust_ast::{Block, Expr, Function};
+
+    const PLACE: Span = Span { lo: 0, hi: 1 };
+
+    /// `fn f(x: u32) -> u32 { x + 1 + .. + 1 }` with so many ones.
+    fn counting(alloc: Global, one: Num, ones: u32) -> Result<Program, NoMem> {
+        let mut sum = Expr::variable(PLACE, VarId(0));
+        for _ in 0..ones {
+            sum = Expr::binary(alloc, PLACE, BinOp::Add, sum, Expr::number(PLACE, one))?;
+        }
+        let mut variables = List::new(alloc);
+        variables.push(Name::from_str(alloc, "x")?)?;
+        let mut functions = List::new(alloc);
+        functions.push(Function {
+            name: Name::from_str(alloc, "f")?,
+            span: PLACE,
+            parameters: 1,
+            variables,
+            body: Block::with_value(alloc, PLACE, List::new(alloc), sum)?,
+        })?;
+        Ok(Program { functions })
+    }
+
+    fn value(outcome: &Outcome) -> Option<u128> {
+        match outcome {
+            Outcome::Value(PValue { node: PValueNode::Num(number) }) => Some(number.magnitude()),
+            _ => None,
+        }
+    }
+
+    #[test]
+    fn runs_a_long_sum(rt: HostRuntime) -> Result<(), NoMem> {
+        let Some(one) = num(IntTy::U32, false, 1) else {
+            return Err(NoMem);
+        };
+        let program = counting(rt.alloc(), one, 500_000)?;
+        let values = List::from_slice(rt.alloc(), &[one])?;
+        let ended = outcome(rt.alloc(), &program, FnId(0), PLACE, Some(values), 1)?;
+        assert!(rt; value(&ended) == Some(500_001));
+        let values = List::from_slice(rt.alloc(), &[one])?;
+        let bounded = outcome(rt.alloc(), &program, FnId(0), PLACE, Some(values), 0)?;
+        assert!(rt; matches!(bounded, Outcome::More));
+        Ok(())
+    }
 }
