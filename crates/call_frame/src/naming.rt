@@ -19,3 +19,36 @@ pub fn function_named(program: &Program, name: &str) -> Option<FnId>
     }
     None
 }
+
+#[cfg(test)]
+mod tests {
+    use super::*;
+    use aen_base::{List, Name, NoMem, Num, Span};
+    use rust_ast::{Block, Expr, Function};
+    use std::alloc::Global;
+
+    fn function(alloc: Global, name: &str, value: Num) -> Result<Function, NoMem> {
+        let span = Span { lo: 0, hi: 1 };
+        Ok(Function {
+            name: Name::from_str(alloc, name)?,
+            span,
+            parameters: 0,
+            variables: List::new(alloc),
+            body: Block::with_value(alloc, span, List::new(alloc), Expr::number(span, value))?,
+        })
+    }
+
+    #[test]
+    fn finds_functions(rt: HostRuntime) -> Result<(), NoMem> {
+        let Some(zero) = aen_base::num(aen_base::IntTy::U32, false, 0) else {
+            return Err(NoMem);
+        };
+        let mut functions = List::new(rt.alloc());
+        functions.push(function(rt.alloc(), "f", zero)?)?;
+        functions.push(function(rt.alloc(), "g", zero)?)?;
+        let program = Program { functions };
+        assert!(rt; function_named(&program, "g") == Some(FnId(1)));
+        assert!(rt; function_named(&program, "h") == None);
+        Ok(())
+    }
+}

@@ -21,3 +21,19 @@ pub fn print_value(alloc: Global, v: &PValue) -> Result<Text, NoMem>
         PValueNode::Bool(_) | PValueNode::Tuple(_) | PValueNode::Ctor(_, _) => unreachable!(),
     }
 }
+
+#[cfg(test)]
+mod tests {
+    use super::*;
+    use crate::words::word_value;
+
+    #[test]
+    fn prints_digits(rt: HostRuntime) -> Result<(), NoMem> {
+        let Some(value) = word_value(b"0004294967295") else {
+            return Err(NoMem);
+        };
+        let text = print_value(rt.alloc(), &value)?;
+        assert!(rt; text.as_str() == "4294967295");
+        Ok(())
+    }
+}

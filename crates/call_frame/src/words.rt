@@ -38,7 +38,7 @@ impl From<NoMem> for ArgFault {
 
 /// The value that a word writes; None exactly where it writes none.
 #[tactic(auto, using(crate::proofs::Digits::in_u32))]
-fn word_value(word: &[u8]) -> Option<PValue>
+pub(crate) fn word_value(word: &[u8]) -> Option<PValue>
     ensures { result ≡ spec.word_value word.now }
 {
     let magnitude = word_number(word)?;
@@ -80,4 +80,28 @@ pub fn arguments(
         return Err(ArgFault::WrongCount(expected, given));
     }
     values(alloc, words)
+}
+
+#[cfg(test)]
+mod tests {
+    use super::*;
+    use std::alloc::AllocError;
+
+    fn faults(alloc: Global, words: &[&str]) -> Result<Option<ArgFault>, AllocError> {
+        let mut all = Vec::new(alloc);
+        for word in words {
+            all.push(String::from_str(alloc, word)?)?;
+        }
+        Ok(values(alloc, all.as_slice()).err())
+    }
+
+    #[test]
+    fn reads_words(rt: HostRuntime) -> Result<(), AllocError> {
+        assert!(rt; faults(rt.alloc(), &["41", "007", "4294967295"])? == None);
+        let large = faults(rt.alloc(), &["41", "4294967296"])?;
+        assert!(rt; large == Some(ArgFault::BadValue(1)));
+        let signed = faults(rt.alloc(), &["+1", ""])?;
+        assert!(rt; signed == Some(ArgFault::BadValue(0)));
+        Ok(())
+    }
 }
