@@ -1,0 +1,4 @@
+pub mod Named
+pub mod Written
+pub mod Arguments
+pub mod Digits

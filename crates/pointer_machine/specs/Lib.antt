@@ -1,0 +1,5 @@
+pub mod Values
+pub mod Given
+pub mod Spine
+pub mod Size
+pub mod Outcomes
