@@ -43,7 +43,14 @@ fn strings(alloc: Global, words: &[&str]) -> Result<Vec<String>, AllocError> {
 
 /// Whether the call gives this status and writes exactly this text.
 pub fn gives(alloc: Global, outside: &Outside, row: &Row) -> Result<bool, NoMem> {
-    answers(alloc, outside, row.content, row.words, row.status, row.text.as_bytes())
+    answers(
+        alloc,
+        outside,
+        row.content,
+        row.words,
+        row.status,
+        row.text.as_bytes(),
+    )
 }
 
 /// Whether the call with this content gives this status and writes exactly these bytes.
@@ -56,7 +63,10 @@ pub fn answers(
     text: &[u8],
 ) -> Result<bool, NoMem> {
     let mut entries = List::new(alloc);
-    entries.push((Name::from_str(alloc, "a.rs")?, List::from_slice(alloc, content)?))?;
+    entries.push((
+        Name::from_str(alloc, "a.rs")?,
+        List::from_slice(alloc, content)?,
+    ))?;
     let mut files = MemFiles::new(entries, List::from_slice(alloc, outside.reads)?);
     let piece = outside.piece.max(1);
     let mut sink = MemSink::new(alloc, List::from_slice(alloc, outside.writes)?, piece, ROOM)?;
