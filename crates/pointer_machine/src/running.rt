@@ -2,7 +2,7 @@ ghost use Rattle.std.specs.Prelude.{◌≡◌, slice_get, Some, IfOk, IsSomeAnd}
 ghost use Rattle.rust_ast.specs.declared.function.Function.{Function};
 ghost use Rattle.source_meaning.specs.Calling.{AreArguments, call_outcome};
 ghost use Rattle.source_meaning.specs.Typing.{IsTyped};
-ghost use Rattle.pointer_machine.specs.Outcomes.{IsU32Outcome};
+ghost use Rattle.pointer_machine.specs.Outcomes.{IsSettled};
 ghost use Rattle.pointer_machine.specs.Values as spec;
 
 use crate::calls::call;
@@ -53,8 +53,8 @@ fn outcome(
 }
 
 /// Runs function `f` of a typed program on arguments of its parameters' types, at a bound of `n`
-/// nested calls, this one counted: one call more makes the outcome `More`. The only error is want
-/// of memory.
+/// nested calls, this one counted: one call more makes the outcome `More`. A value is of type u32,
+/// and the outcome is never `Stuck`. The only error is want of memory.
 pub fn run(
     alloc: Global,
     program: &Program,
@@ -65,7 +65,7 @@ pub fn run(
     requires typed { IsTyped program.now }
     requires there { IsSomeAnd (slice_get program.now.functions f.0) (λ g. AreArguments g args.now) }
     ensures same { IfOk result (λ o. (g : Function) → slice_get program.now.functions f.0 ≡ Some g → o ≡ call_outcome program.now f.0 g args.now n) }
-    ensures u32 { IfOk result IsU32Outcome }
+    ensures settled { IfOk result IsSettled }
 {
     let function = &program.functions.as_slice()[f.0 as usize];
     let values = numbers(alloc, args)?;
@@ -101,7 +101,11 @@ mod tests {
 
     fn value(outcome: &Outcome) -> Option<u128> {
         match outcome {
-            Outcome::Value(PValue { node: PValueNode::Num(number) }) => Some(number.magnitude()),
+            Outcome::Value(
+                PValue {
+                    node: PValueNode::Num(number),
+                },
+            ) => Some(number.magnitude()),
             _ => None,
         }
     }
