@@ -35,6 +35,7 @@ calls_at defs n = λ d values. evaluate defs d values n
 abbrev pub state_answer : Defs → State → Answer
 state_answer defs s = code_answer (calls_at defs s.fuel) s.variables s.code.now
 
+-- the answer of what a turn leaves, without the pending binds
 abbrev pub turn_answer : Defs → Turn → Answer
 turn_answer defs (T.Go s) = state_answer defs s
 turn_answer defs (T.Done a) = a
