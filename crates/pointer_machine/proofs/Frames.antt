@@ -1,5 +1,5 @@
 -- The machine's memory at a call: what was there before, the cells of the frame, and what came after.
-use Rattle.std.proofs.Common.{◌≡◌, ℕ, zero, suc, ◌+◌, ◌<◌, ◌≤◌, List, [], ◌∷◌, ◌++◌, length, map, refl, ap, sym, ◌∙◌, arith}
+use Rattle.std.proofs.Common.{◌≡◌, ℕ, zero, suc, ◌+◌, ◌<◌, ◌≤◌, List, [], ◌∷◌, ◌++◌, length, map, refl, ap, ◌∙◌, arith}
 use Rattle.std.specs.Prelude.{slice_get, slice_set, Option, Some, None, option_and_then}
 use Rattle.std.proofs.lemmas.Option.{slice_get_within}
 use Rattle.aen_base.specs.Numbers.{Number}
@@ -21,7 +21,7 @@ cells_size (v ∷ variables) [] = ap suc (cells_size variables [])
 cells_size (v ∷ variables) (a ∷ args) = ap suc (cells_size variables args)
 
 cells_held : (variables : List (List ℕ)) (vars : List Number) (k : ℕ) (n : Number) → length vars ≤ length variables → slice_get vars k ≡ Some n →
-  slice_get (cells variables vars) k ≡ Some (holds (num n))
+    slice_get (cells variables vars) k ≡ Some (holds (num n))
 cells_held variables [] k n le h = cc
 cells_held [] (x ∷ vars) k n le h = absurd (omega arith)
 cells_held (v ∷ variables) (x ∷ vars) zero n le h = ap option_held h
@@ -33,7 +33,7 @@ cells_fresh (v ∷ variables) [] lt = refl
 cells_fresh (v ∷ variables) (x ∷ vars) lt = cells_fresh variables vars (omega arith)
 
 cells_set : (variables : List (List ℕ)) (vars : List Number) (n : Number) → length vars < length variables →
-  slice_set (cells variables vars) (length vars) (holds (num n)) ≡ cells variables (vars ++ n ∷ [])
+    slice_set (cells variables vars) (length vars) (holds (num n)) ≡ cells variables (vars ++ n ∷ [])
 cells_set [] vars n lt = absurd (omega arith)
 cells_set (v ∷ variables) [] n lt = refl
 cells_set (v ∷ variables) (x ∷ vars) n lt = ap (λ (l : List Cell). holds (num x) ∷ l) (cells_set variables vars n (omega arith))
@@ -42,8 +42,8 @@ frame_get : (variables : List (List ℕ)) (n k : ℕ) → k < length variables �
 frame_get [] n k h = absurd (omega arith)
 frame_get (v ∷ variables) n zero h = let e : n ≡ n + 0 = omega arith in ap Some e
 frame_get (v ∷ variables) n (suc k) h =
-  let e : n + 1 + k ≡ n + suc k = omega arith in
-  frame_get variables (n + 1) k (omega arith) ∙ ap Some e
+    let e : n + 1 + k ≡ n + suc k = omega arith in
+    frame_get variables (n + 1) k (omega arith) ∙ ap Some e
 
 module _ (old : Memory) (variables : List (List ℕ)) where
   abbrev pub frame : Frame
@@ -53,34 +53,34 @@ module _ (old : Memory) (variables : List (List ℕ)) where
   whole_memory vars more = old ++ (cells variables vars ++ more)
 
   cell_get : (vars : List Number) (more : Memory) (k : ℕ) → k < length variables →
-    slice_get (whole_memory vars more) (length old + k) ≡ slice_get (cells variables vars) k
+      slice_get (whole_memory vars more) (length old + k) ≡ slice_get (cells variables vars) k
   cell_get vars more k h =
-    let size = cells_size variables (map num vars) in
-    get_right old (cells variables vars ++ more) k ∙ get_left (cells variables vars) more k (omega arith)
+      let size = cells_size variables (map num vars) in
+      get_right old (cells variables vars ++ more) k ∙ get_left (cells variables vars) more k (omega arith)
 
   -- reading a declared variable
   pub variable_read : (vars : List Number) (more : Memory) (k : ℕ) (n : Number) → length vars ≤ length variables → slice_get vars k ≡ Some n →
-    option_and_then (read_cell (whole_memory vars more)) (slice_get frame k) ≡ Some (num n)
+      option_and_then (read_cell (whole_memory vars more)) (slice_get frame k) ≡ Some (num n)
   variable_read vars more k n le is =
-    let below = slice_get_within vars k n is in
-    ap (option_and_then (read_cell (whole_memory vars more))) (frame_get variables (length old) k (omega arith))
+      let below = slice_get_within vars k n is in
+      ap (option_and_then (read_cell (whole_memory vars more))) (frame_get variables (length old) k (omega arith))
       ∙ ap (option_and_then held) (cell_get vars more k (omega arith) ∙ cells_held variables vars k n le is)
 
   -- writing the next variable
   pub variable_write : (vars : List Number) (more : Memory) (n : Number) → length vars < length variables →
-    option_and_then (λ a. write_cell (whole_memory vars more) a (num n)) (slice_get frame (length vars)) ≡ Some (whole_memory (vars ++ n ∷ []) more)
+      option_and_then (λ a. write_cell (whole_memory vars more) a (num n)) (slice_get frame (length vars)) ≡ Some (whole_memory (vars ++ n ∷ []) more)
   variable_write vars more n lt =
-    let size = cells_size variables (map num vars) in
-    ap (option_and_then (λ a. write_cell (whole_memory vars more) a (num n))) (frame_get variables (length old) (length vars) lt)
+      let size = cells_size variables (map num vars) in
+      ap (option_and_then (λ a. write_cell (whole_memory vars more) a (num n))) (frame_get variables (length old) (length vars) lt)
       ∙ ap (write_to (whole_memory vars more) (length old + length vars) (num n)) (cell_get vars more (length vars) lt ∙ cells_fresh variables vars lt)
       ∙ ap Some (set_right old (cells variables vars ++ more) (length vars) (holds (num n))
-          ∙ ap (λ (l : Memory). old ++ l) (set_left (cells variables vars) more (length vars) (holds (num n)) (omega arith)
-              ∙ ap (λ (l : List Cell). l ++ more) (cells_set variables vars n lt)))
+      ∙ ap (λ (l : Memory). old ++ l) (set_left (cells variables vars) more (length vars) (holds (num n)) (omega arith)
+      ∙ ap (λ (l : List Cell). l ++ more) (cells_set variables vars n lt)))
 
 -- a frame's end changes nothing below it
 pub dropped : (variables : List (List ℕ)) (old above : Memory) (n j : ℕ) → n ≡ length old + j → drop_frame (frame_from n variables) (old ++ above) ≡ old ++ drop_frame (frame_from j variables) above
 dropped [] old above n j e = refl
 dropped (v ∷ variables) old above n j e =
-  ap (λ (i : ℕ). drop_frame (frame_from (n + 1) variables) (slice_set (old ++ above) i gone)) e
+    ap (λ (i : ℕ). drop_frame (frame_from (n + 1) variables) (slice_set (old ++ above) i gone)) e
     ∙ ap (drop_frame (frame_from (n + 1) variables)) (set_right old above j gone)
     ∙ dropped variables old (slice_set above j gone) (n + 1) (j + 1) (omega arith)

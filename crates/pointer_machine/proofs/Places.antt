@@ -1,8 +1,7 @@
 -- Items of lists by their places.
-use Rattle.std.proofs.Common.{◌≡◌, ℕ, zero, suc, ◌+◌, ◌<◌, ◌≤◌, List, [], ◌∷◌, ◌++◌, length, refl, ap, sym, ◌∙◌, arith}
-use Rattle.std.specs.Prelude.{slice_get, slice_set, Option, Some, None}
+use Rattle.std.proofs.Common.{◌≡◌, ℕ, zero, suc, ◌+◌, ◌<◌, List, [], ◌∷◌, ◌++◌, length, refl, ap, ◌∙◌, arith}
+use Rattle.std.specs.Prelude.{slice_get, slice_set, Some}
 use Rattle.std.proofs.lemmas.Option.{slice_get_within}
-
 
 module _ {X : Type 0} where
   pub get_left : (xs ys : List X) (k : ℕ) → k < length xs → slice_get (xs ++ ys) k ≡ slice_get xs k
@@ -13,8 +12,8 @@ module _ {X : Type 0} where
   pub get_right : (xs ys : List X) (k : ℕ) → slice_get (xs ++ ys) (length xs + k) ≡ slice_get ys k
   get_right [] ys k = let e : 0 + k ≡ k = omega arith in ap (slice_get ys) e
   get_right (x ∷ xs) ys k =
-    let e : suc (length xs) + k ≡ suc (length xs + k) = omega arith in
-    ap (slice_get (x ∷ (xs ++ ys))) e ∙ get_right xs ys k
+      let e : suc (length xs) + k ≡ suc (length xs + k) = omega arith in
+      ap (slice_get (x ∷ (xs ++ ys))) e ∙ get_right xs ys k
 
   pub set_left : (xs ys : List X) (k : ℕ) (x : X) → k < length xs → slice_set (xs ++ ys) k x ≡ slice_set xs k x ++ ys
   set_left [] ys k x h = absurd (omega arith)
@@ -24,8 +23,8 @@ module _ {X : Type 0} where
   pub set_right : (xs ys : List X) (k : ℕ) (x : X) → slice_set (xs ++ ys) (length xs + k) x ≡ xs ++ slice_set ys k x
   set_right [] ys k x = let e : 0 + k ≡ k = omega arith in ap (λ j. slice_set ys j x) e
   set_right (y ∷ xs) ys k x =
-    let e : suc (length xs) + k ≡ suc (length xs + k) = omega arith in
-    ap (λ j. slice_set (y ∷ (xs ++ ys)) j x) e ∙ ap (λ l. y ∷ l) (set_right xs ys k x)
+      let e : suc (length xs) + k ≡ suc (length xs + k) = omega arith in
+      ap (λ j. slice_set (y ∷ (xs ++ ys)) j x) e ∙ ap (λ l. y ∷ l) (set_right xs ys k x)
 
   pub get_within : (xs : List X) (k : ℕ) → k < length xs → (x : X) × (slice_get xs k ≡ Some x)
   get_within [] k h = absurd (omega arith)

@@ -1,5 +1,5 @@
 -- One operator more along the left sides.
-use Rattle.std.proofs.Common.{◌≡◌, ℕ, ◌+◌, ◌<◌, ◌≤◌, List, [], ◌∷◌, ◌++◌, refl, ap, sym, subst, ◌∙◌, arith}
+use Rattle.std.proofs.Common.{◌≡◌, ℕ, ◌<◌, ◌≤◌, List, [], ◌∷◌, ◌++◌, refl, ap, sym, subst, ◌∙◌, arith}
 use Rattle.std.specs.Prelude.{Result, Ok, Err, IsErrAnd}
 use Rattle.aen_base.specs.declared.span.Span.{Span}
 use Rattle.aen_base.specs.declared.operators.BinOp.{BinOp}
@@ -14,7 +14,7 @@ use Rattle.pointer_machine.specs.Values.{Valued, Call, and_then, operate, value}
 use Rattle.pointer_machine.specs.Spine.{with_right, rights_value, AreBelow}
 
 pub rights_push : (c : Call) (vars : List Number) (left : Valued) (rights : List Right) (r : Right) →
-  rights_value c vars (rights ++ r ∷ []) left ≡ rights_value c vars rights (with_right c vars r left)
+    rights_value c vars (rights ++ r ∷ []) left ≡ rights_value c vars rights (with_right c vars r left)
 rights_push c vars left [] r = refl
 rights_push c vars left (x ∷ rights) r = ap (with_right c vars x) (rights_push c vars left rights r)
 
@@ -33,11 +33,11 @@ below_pop n (x ∷ rights) r (lt, h) = let (below, last) = below_pop n rights r 
 
 -- the left side of the left side is next, and its operator with its right side is one more
 module _ (whole left a b : Expr) (s : Span) (op : BinOp) (rights after : List Right) (r : Right)
-         (is : left ≡ binary s op a b) (is_span : r.span ≡ s) (is_op : r.op ≡ op) (is_side : r.side.now ≡ b) (pushed : after ≡ rights ++ r ∷ []) where
+    (is : left ≡ binary s op a b) (is_span : r.span ≡ s) (is_op : r.op ≡ op) (is_side : r.side.now ≡ b) (pushed : after ≡ rights ++ r ∷ []) where
   pub next_whole : (c : Call) (vars : List Number) → rights_value c vars rights (value c vars left) ≡ value c vars whole →
-    rights_value c vars after (value c vars a) ≡ value c vars whole
+      rights_value c vars after (value c vars a) ≡ value c vars whole
   next_whole c vars h =
-    ap (λ (l : List Right). rights_value c vars l (value c vars a)) pushed
+      ap (λ (l : List Right). rights_value c vars l (value c vars a)) pushed
       ∙ rights_push c vars (value c vars a) rights r
       ∙ (λ i. rights_value c vars rights (and_then (value c vars a) (λ x. and_then (value c vars (is_side i)) (λ y. operate (is_span i) (is_op i) x y))))
       ∙ ap (λ (e : Expr). rights_value c vars rights (value c vars e)) (sym is)
@@ -45,9 +45,9 @@ module _ (whole left a b : Expr) (s : Span) (op : BinOp) (rights after : List Ri
 
   pub next_below : nodes_expr left ≤ nodes_expr whole → AreBelow (nodes_expr whole) rights → AreBelow (nodes_expr whole) after
   next_below le h =
-    let size = ap nodes_expr is in
-    let side = ap nodes_expr is_side in
-    subst (AreBelow (nodes_expr whole)) (sym pushed) (below_push (nodes_expr whole) rights r h (omega arith))
+      let size = ap nodes_expr is in
+      let side = ap nodes_expr is_side in
+      subst (AreBelow (nodes_expr whole)) (sym pushed) (below_push (nodes_expr whole) rights r h (omega arith))
 
   pub next_left : nodes_expr left ≤ nodes_expr whole → nodes_expr a ≤ nodes_expr whole
   next_left le = let size = ap nodes_expr is in omega arith
@@ -64,7 +64,7 @@ module _ (c : Call) (vars : List Number) (whole : Valued) (rights : List Right) 
 
     pub side_fails : (e : Stop) → Gives (value c vars r.side.now) (Err e) → Gives whole (Err e)
     side_fails (Halted h) g =
-      sym stepped ∙ ap (λ (v : Valued). rights_value c vars before (and_then v (λ y. operate r.span r.op x y))) g ∙ rights_fail c vars h before
+        sym stepped ∙ ap (λ (v : Valued). rights_value c vars before (and_then v (λ y. operate r.span r.op x y))) g ∙ rights_fail c vars h before
     side_fails Memory g = tt
 
     pub operated : (y : Number) → value c vars r.side.now ≡ Ok y → rights_value c vars before (operate r.span r.op x y) ≡ whole

@@ -101,7 +101,11 @@ mod tests {
 
     fn value(outcome: &Outcome) -> Option<u128> {
         match outcome {
-            Outcome::Value(PValue { node: PValueNode::Num(number) }) => Some(number.magnitude()),
+            Outcome::Value(
+                PValue {
+                    node: PValueNode::Num(number),
+                },
+            ) => Some(number.magnitude()),
             _ => None,
         }
     }

@@ -1,4 +1,4 @@
-use Rattle.std.proofs.Common.{◌≡◌, ℕ, ◌+◌, ◌*◌, ◌^◌, List, [], length, drop}
+use Rattle.std.proofs.Common.{◌≡◌, ◌+◌, ◌*◌, List, [], length, drop}
 use Rattle.std.specs.Prelude.{Ok}
 use Rattle.aen_base.specs.Numbers.{Number}
 use Rattle.aen_base.specs.declared.span.Span.{Span}
@@ -32,14 +32,15 @@ decreases-expression-loop-right l = length l.rights
 abbrev pub invariant-expression-loop-right : goal.invariant-expression-loop-right
 invariant-expression-loop-right l = record {
   whole : spine.rights_value (spec.call_value l.program l.bound) l.variables l.rights (Ok l.value) ≡ spec.value (spec.call_value l.program l.bound) l.variables l.expr;
-  below : spine.AreBelow (nodes_expr l.expr) l.rights }
+  below : spine.AreBelow (nodes_expr l.expr) l.rights;
+}
 
 abbrev pub invariant-arguments-loop-item : goal.invariant-arguments-loop-item
 invariant-arguments-loop-item l =
-  (f : List Number → spec.Valued) → spec.values (spec.call_value l.program l.bound) l.variables (exprs (drop l.item-index l.items)) l.values f
+    (f : List Number → spec.Valued) → spec.values (spec.call_value l.program l.bound) l.variables (exprs (drop l.item-index l.items)) l.values f
     ≡ spec.values (spec.call_value l.program l.bound) l.variables (exprs l.items) [] f
 
 abbrev pub invariant-declare-loop-statement : goal.invariant-declare-loop-statement
 invariant-declare-loop-statement l =
-  (s : Span) (last : MaybeExpr) → spec.body_value (spec.call_value l.program l.bound) s l.variables (stmts (drop l.statement-index l.statements)) last
+    (s : Span) (last : MaybeExpr) → spec.body_value (spec.call_value l.program l.bound) s l.variables (stmts (drop l.statement-index l.statements)) last
     ≡ spec.body_value (spec.call_value l.program l.bound) s l.fn.values (stmts l.statements) last

@@ -1,4 +1,4 @@
-use Rattle.std.proofs.Common.{◌≡◌, IfOk}
+use Rattle.std.proofs.Common.{◌≡◌}
 use Rattle.std.specs.Prelude.{slice_get, Some}
 use Rattle.std.proofs.lemmas.Result.{IfOk-weaker}
 use Rattle.rust_ast.specs.declared.function.Function.{Function}
@@ -11,18 +11,18 @@ use Rattle.pointer_machine.proofs.running.run.Goals as goal
 
 pub returns-clause-same : goal.returns-clause-same
 returns-clause-same c =
-  IfOk-weaker c.outcome.result
+    IfOk-weaker c.outcome.result
     (λ (o : Outcome). o ≡ spec.begun c.args.program.now c.args.n c.args.f.0 c.index-as_slice-f.result.span c.in_ok-values.values)
     (λ (o : Outcome). (g : Function) → slice_get c.args.program.now.functions c.args.f.0 ≡ Some g → o ≡ call_outcome c.args.program.now c.args.f.0 g c.args.args.now c.args.n)
     (λ o h g is. outcome_is c.args.program.now c.args.n c.args.f.0 c.as_slice.result.now c.index-as_slice-f.result g c.args.args.now c.in_ok-values.values o
-      c.requires.typed c.requires.there c.as_slice.ensures c.index-as_slice-f.is c.in_ok-values.ensures h is)
+    c.requires.typed c.requires.there c.as_slice.ensures c.index-as_slice-f.is c.in_ok-values.ensures h is)
     c.outcome.ensures
 
 pub returns-clause-u32 : goal.returns-clause-u32
 returns-clause-u32 c =
-  IfOk-weaker c.outcome.result
+    IfOk-weaker c.outcome.result
     (λ (o : Outcome). o ≡ spec.begun c.args.program.now c.args.n c.args.f.0 c.index-as_slice-f.result.span c.in_ok-values.values)
     IsU32Outcome
     (λ o h. outcome_typed c.args.program.now c.args.n c.args.f.0 c.index-as_slice-f.result.span c.args.args.now c.in_ok-values.values o
-      c.requires.typed c.requires.there c.in_ok-values.ensures h)
+    c.requires.typed c.requires.there c.in_ok-values.ensures h)
     c.outcome.ensures
