@@ -34,9 +34,9 @@ map_next f (y ∷ xs) x = ap (λ l. f y ∷ l) (map_next f xs x)
 
 -- one word more
 pub reading_next : (words : List (List ℕ)) (i : ℕ) (values : List PValue) (word : List ℕ) (value : PValue) → slice_get words i ≡ Some word →
-  map word_value (take i words) ≡ map Some values → word_value word ≡ Some value → map word_value (take (i + 1) words) ≡ map Some (values ++ value ∷ [])
+    map word_value (take i words) ≡ map Some values → word_value word ≡ Some value → map word_value (take (i + 1) words) ≡ map Some (values ++ value ∷ [])
 reading_next words i values word value found here is =
-  ap (map word_value) (take_next words i word found)
+    ap (map word_value) (take_next words i word found)
     ∙ map_next word_value (take i words) word
     ∙ (λ j. here j ++ is j ∷ [])
     ∙ sym (map_next Some values value)
@@ -44,7 +44,7 @@ reading_next words i values word value found here is =
 u32_by : (o : Option ℕ) (value : PValue) → ((m : ℕ) → o ≡ Some m → m < 2 ^ 32) → option_map (λ n. v.number (number_of U32 (pos n))) o ≡ Some value → IsU32Value value
 u32_by None value small h = absurd (cc)
 u32_by (Some n) value small h =
-  subst IsU32Value (same_Some (v.number (number_of U32 (pos n))) value h) (record { mag = n; small = small n refl; same = refl })
+    subst IsU32Value (same_Some (v.number (number_of U32 (pos n))) value h) (record { mag = n; small = small n refl; same = refl })
 
 abbrev after_first : List (Option PValue) → List (Option PValue)
 after_first [] = []
@@ -54,15 +54,15 @@ all_u32 : (words : List (List ℕ)) (values : List PValue) → map word_value wo
 all_u32 words [] h = tt
 all_u32 [] (value ∷ values) h = absurd (cc)
 all_u32 (word ∷ words) (value ∷ values) h =
-  (u32_by (word_number word) value (word_small word) (ap (λ (l : List (Option PValue)). get_or l 0 None) h), all_u32 words values (ap after_first h))
+    (u32_by (word_number word) value (word_small word) (ap (λ (l : List (Option PValue)). get_or l 0 None) h), all_u32 words values (ap after_first h))
 
 -- values that words write are arguments
 pub fitting : (f : Function) (words : List (List ℕ)) (values : List PValue) → length words ≡ f.parameters → map word_value words ≡ map Some values → AreArguments f values
 fitting f words values count h =
-  let a = length-map words word_value in
-  let b = length-map values Some in
-  let c = ap length h in
-  record { count = omega arith; typed = all_u32 words values h }
+    let a = length-map words word_value in
+    let b = length-map values Some in
+    let c = ap length h in
+    record { count = omega arith; typed = all_u32 words values h }
 
 pub fits_of : (f : Function) (words : List (List ℕ)) (r : Result (List PValue) ArgFault) → IsReading f.parameters words r → IfOk r (λ values. AreArguments f values)
 fits_of f words (Ok values) (count, h) = fitting f words values count h
@@ -71,9 +71,9 @@ fits_of f words (Err e) h = tt
 -- what is printed for a value is read as this value
 pub value_back : (a : PValue) (t : List ℕ) → IsU32Value a → t ≡ written a → word_value t ≡ Some a
 value_back (v.number n) t u e =
-  let back : t ≡ written (v.number (number_of U32 (pos u.mag))) → word_value t ≡ Some (v.number (number_of U32 (pos u.mag))) =
+    let back : t ≡ written (v.number (number_of U32 (pos u.mag))) → word_value t ≡ Some (v.number (number_of U32 (pos u.mag))) =
     λ h. ap word_value h ∙ ap (option_map (λ k. v.number (number_of U32 (pos k)))) (printed u.mag u.small) in
-  subst (λ (x : Number). t ≡ written (v.number x) → word_value t ≡ Some (v.number x)) (sym u.same) back e
+    subst (λ (x : Number). t ≡ written (v.number x) → word_value t ≡ Some (v.number x)) (sym u.same) back e
 value_back (v.truth b) t u e = absurd u
 value_back (v.tuple parts) t u e = absurd u
 value_back (v.built d parts) t u e = absurd u

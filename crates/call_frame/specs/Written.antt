@@ -1,5 +1,5 @@
 -- Values as they are written: in words that are given, and in what is printed (LANGUAGE.md, "A call").
-use Rattle.std.specs.Prelude.{ℕ, ◌^◌, Bool, ◌&&◌, nat_lt, if◌then◌else◌, List, [], Option, Some, None, pos}
+use Rattle.std.specs.Prelude.{ℕ, ◌^◌, ◌&&◌, nat_lt, if◌then◌else◌, List, [], Option, Some, None, pos}
 use Rattle.std.specs.Option.{option_map}
 use Rattle.std.specs.Fmt.{signed_decimal}
 use Rattle.aen_base.specs.declared.int_ty.IntTy.TheVariants.{U32}
