@@ -25,7 +25,7 @@ lemma_result defs d = codes " (" ++ (var_text (length d.params) ++ (codes " : " 
 -- ` (h : fn.f n v0 = ok v1)`
 abbrev pub lemma_hypothesis : Defs → Def → List ℕ
 lemma_hypothesis defs d = codes " (h : " ++ (kind_text defs d.kind ++ (codes " n" ++ (variables_from 0 (length d.params)
-  ++ (codes " = ok " ++ (var_text (length d.params) ++ codes ")")))))
+    ++ (codes " = ok " ++ (var_text (length d.params) ++ codes ")")))))
 
 abbrev pub lemma_text : Defs → Def → List ℕ
 lemma_text defs d = lemma_head defs d ++ (lemma_result defs d ++ (lemma_hypothesis defs d ++ codes " : True := sorry\n"))
