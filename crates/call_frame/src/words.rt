@@ -85,23 +85,43 @@ pub fn arguments(
 #[cfg(test)]
 mod tests {
     use super::*;
-    use std::alloc::AllocError;
+    use aen_base::{Name, Span, VarId};
+    use rust_ast::{Block, Expr};
 
-    fn faults(alloc: Global, words: &[&str]) -> Result<Option<ArgFault>, AllocError> {
+    /// `fn f(x: u32, y: u32) -> u32 { x }`.
+    fn function(alloc: Global) -> Result<Function, NoMem> {
+        let span = Span { lo: 0, hi: 1 };
+        let mut variables = List::new(alloc);
+        variables.push(Name::from_str(alloc, "x")?)?;
+        variables.push(Name::from_str(alloc, "y")?)?;
+        let value = Expr::variable(span, VarId(0));
+        Ok(Function {
+            name: Name::from_str(alloc, "f")?,
+            span,
+            parameters: 2,
+            variables,
+            body: Block::with_value(alloc, span, List::new(alloc), value)?,
+        })
+    }
+
+    fn faults(alloc: Global, words: &[&str]) -> Result<Option<ArgFault>, NoMem> {
         let mut all = Vec::new(alloc);
         for word in words {
             all.push(String::from_str(alloc, word)?)?;
         }
-        Ok(values(alloc, all.as_slice()).err())
+        let function = function(alloc)?;
+        Ok(arguments(alloc, &function, all.as_slice()).err())
     }
 
     #[test]
-    fn reads_words(rt: HostRuntime) -> Result<(), AllocError> {
-        assert!(rt; faults(rt.alloc(), &["41", "007", "4294967295"])? == None);
+    fn reads_words(rt: HostRuntime) -> Result<(), NoMem> {
+        assert!(rt; faults(rt.alloc(), &["007", "4294967295"])? == None);
         let large = faults(rt.alloc(), &["41", "4294967296"])?;
         assert!(rt; large == Some(ArgFault::BadValue(1)));
         let signed = faults(rt.alloc(), &["+1", ""])?;
         assert!(rt; signed == Some(ArgFault::BadValue(0)));
+        let few = faults(rt.alloc(), &["a"])?;
+        assert!(rt; few == Some(ArgFault::WrongCount(2, 1)));
         Ok(())
     }
 }
