@@ -1,2 +1,4 @@
-pub mod WordLemmas
+pub mod FuelLemmas
 pub mod Replies
+pub mod WordLemmas
+pub mod Forms

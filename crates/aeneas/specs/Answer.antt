@@ -3,7 +3,8 @@ use Rattle.std.specs.Prelude.{◌≡◌, ℕ, ◌⊎◌, List, [], Option}
 use Rattle.aen_io.specs.Faults.{Rose}
 use Rattle.aen_io.specs.Told.{Told}
 use Rattle.aen_io.specs.Written.{WritesAll, WritesPart}
-use Rattle.aeneas.specs.Reply.{IsReply, ReadAs}
+use Rattle.aeneas.specs.Reply.{IsReply}
+use Rattle.aeneas.specs.Source.{ReadAs}
 use Rattle.aeneas.specs.Translation.{IsTranslation}
 
 -- 99: want of memory, and nothing was written

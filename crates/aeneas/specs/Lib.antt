@@ -1,7 +1,9 @@
 pub mod Words
 pub mod Lines
 pub mod Translation
+pub mod Source
+pub mod Run
 pub mod Reply
 pub mod Parsed
-pub mod Content
 pub mod Answer
+pub mod SourceFound

@@ -1,14 +1,42 @@
--- The lines of refusals (README.md, "Statuses").
+-- The lines that commands write (README.md, "Statuses").
 use Rattle.std.specs.Prelude.{ℕ, List, [], ◌∷◌, ◌++◌, codes}
+use Rattle.std.specs.Fmt.{decimal}
+use Rattle.call_frame.specs.Written.{written}
+use Rattle.pure_ast.specs.Values.{PValue}
+
+-- a line: its text and a line feed
+abbrev pub line : List ℕ → List ℕ
+line text = text ++ 10 ∷ []
 
 abbrev pub usage_line : List ℕ
-usage_line = codes "refused 1 usage" ++ 10 ∷ []
+usage_line = line (codes "refused 1 usage")
 
 abbrev pub read_line : List ℕ
-read_line = codes "refused 2 read" ++ 10 ∷ []
+read_line = line (codes "refused 2 read")
 
 abbrev pub syntax_line : List ℕ
-syntax_line = codes "refused 5 syntax" ++ 10 ∷ []
+syntax_line = line (codes "refused 5 syntax")
 
 abbrev pub source_line : List ℕ
-source_line = codes "refused 10 limit source 1048577" ++ 10 ∷ []
+source_line = line (codes "refused 10 limit source 1048577")
+
+abbrev pub fuel_line : ℕ → List ℕ
+fuel_line n = line (codes "refused 10 limit fuel " ++ decimal n)
+
+abbrev pub count_line : ℕ → ℕ → List ℕ
+count_line expected given = codes "refused 11 count " ++ (decimal expected ++ (codes " " ++ line (decimal given)))
+
+abbrev pub argument_line : ℕ → List ℕ
+argument_line i = line (codes "refused 11 argument " ++ decimal i)
+
+abbrev pub name_line : List ℕ
+name_line = line (codes "refused 13 name")
+
+abbrev pub value_line : PValue → List ℕ
+value_line v = line (codes "value " ++ written v)
+
+abbrev pub panic_line : List ℕ
+panic_line = line (codes "panic")
+
+abbrev pub more_line : List ℕ
+more_line = line (codes "more")

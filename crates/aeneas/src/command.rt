@@ -1,22 +1,63 @@
-ghost use Rattle.std.specs.Prelude.{◌≡◌, MatchOption, map};
-ghost use Rattle.std.specs.String.{string_bytes};
-ghost use Rattle.aeneas.specs.Words.{IsTranslate, HasNoForm};
-ghost use Rattle.aeneas.specs.Parsed.{IsCommand};
+ghost use Rattle.std.specs.Prelude.{◌≡◌, ◌<◌, ◌^◌, ◌↔◌, IsTrue, All, MatchOption, map};
+ghost use Rattle.std.specs.String.{string_bytes, string_len};
+ghost use Rattle.aeneas.specs.Words.{HasNoForm, IsFuel};
+ghost use Rattle.aeneas.specs.Parsed.{IsCommand, IsRunParts};
+
+use crate::fuel::fuel_number;
 
 /// A command, as its words give it.
 pub enum Command<'a> {
     /// `translate FILE`
     Translate(&'a str),
+    /// `run FILE FN FUEL VALUE..`
+    Run(&'a str, &'a str, u64, &'a [String]),
 }
 
 /// The command that the words give; None exactly where they have none of the forms.
 pub fn command_of(words: &[String]) -> Option<Command<'_>>
     ensures { MatchOption result (HasNoForm (map string_bytes words.now)) (IsCommand (map string_bytes words.now)) }
 {
+    if are_short(words) {
+        form_of(words)
+    } else {
+        None
+    }
+}
+
+/// The command of words that are short enough.
+fn form_of(words: &[String]) -> Option<Command<'_>>
+    requires { All (λ w. string_len w < 2 ^ 32) words.now }
+    ensures { MatchOption result (HasNoForm (map string_bytes words.now)) (IsCommand (map string_bytes words.now)) }
+{
     match words {
-        [command, file] if command.as_str() == "translate" && file.len() < 4_294_967_296 => {
+        [command, file] if command.as_str() == "translate" => {
             Some(Command::Translate(file.as_str()))
+        }
+        [command, file, name, fuel, values @ ..] if command.as_str() == "run" => {
+            run_command(file.as_str(), name.as_str(), fuel.as_str(), values)
         }
         _ => None,
     }
+}
+
+/// The command `run` with these parts; None exactly where FUEL is no number.
+fn run_command<'a>(
+    file: &'a str,
+    name: &'a str,
+    fuel: &str,
+    values: &'a [String],
+) -> Option<Command<'a>>
+    ensures { MatchOption result (IsFuel fuel.now → ⊥) (IsRunParts file.now name.now fuel.now (map string_bytes values.now)) }
+{
+    match fuel_number(fuel.as_bytes()) {
+        Some(fuel) => Some(Command::Run(file, name, fuel, values)),
+        None => None,
+    }
+}
+
+/// Whether each word has fewer than 2^32 bytes.
+fn are_short(words: &[String]) -> bool
+    ensures { IsTrue result ↔ All (λ w. string_len w < 2 ^ 32) words.now }
+{
+    words.iter().all(|word| word.len() < 4_294_967_296)
 }

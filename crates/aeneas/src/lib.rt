@@ -2,7 +2,11 @@
 #![tactic(auto)]
 
 mod command;
+mod fuel;
 mod reply;
+mod run_file;
+mod source;
 mod top;
+mod translate_file;
 
 pub use top::aeneas;

@@ -1,18 +1,13 @@
-ghost use Rattle.std.specs.Prelude.{◌≡◌, ◌≤◌, ◌<◌, ◌^◌, ℕ, List, IfOk, length, map, vec_len};
+ghost use Rattle.std.specs.Prelude.{◌≡◌, IfOk, map};
 ghost use Rattle.std.specs.String.{string_bytes};
-ghost use Rattle.aeneas.specs.Reply.{IsReply, TranslateReply, source_limit};
-ghost use Rattle.aeneas.specs.Content.{ContentReply};
+ghost use Rattle.aeneas.specs.Reply.{IsReply};
 
 use crate::command::{Command, command_of};
+use crate::run_file::run_file;
+use crate::translate_file::translate_file;
 use aen_base::{NoMem, Text};
-use aen_io::{Files, ReadAll, read_all};
-use lean_printer::print;
-use rust_reader::{ReadFault, read};
+use aen_io::Files;
 use std::alloc::Global;
-use translate::translate;
-
-/// The most bytes of a source.
-const SOURCE_LIMIT: u64 = 1_048_576;
 
 /// What a command answers: its status, and the bytes that it writes.
 #[derive(Drop)]
@@ -23,8 +18,8 @@ pub struct Reply {
     pub text: Text,
 }
 
-/// A refusal: its status and its line.
-fn refusal(alloc: Global, status: u8, line: &str) -> Result<Reply, NoMem>
+/// A reply of one line. The only error is want of memory.
+pub fn one_line(alloc: Global, status: u8, line: &str) -> Result<Reply, NoMem>
     ensures { IfOk result (λ r. (r.status ≡ status) × (r.text ≡ line.now)) }
 {
     Ok(Reply {
@@ -33,42 +28,16 @@ fn refusal(alloc: Global, status: u8, line: &str) -> Result<Reply, NoMem>
     })
 }
 
-/// The reply to a command's words.
+/// The reply to a command's words. The only error is want of memory.
 pub fn reply_to<F: Files>(alloc: Global, words: &[String], files: &mut F) -> Result<Reply, NoMem>
     ensures reply { IfOk result (λ r. IsReply (map string_bytes words.now) (F.told files.old) (F.faults files.old) (F.faults files.new) r.status r.text) }
     ensures kept { F.told files.new ≡ F.told files.old }
 {
     match command_of(words) {
-        None => refusal(alloc, 1, "refused 1 usage\n"),
+        None => one_line(alloc, 1, "refused 1 usage\n"),
         Some(Command::Translate(file)) => translate_file(alloc, files, file),
-    }
-}
-
-/// `translate FILE`.
-fn translate_file<F: Files>(alloc: Global, files: &mut F, file: &str) -> Result<Reply, NoMem>
-    ensures reply { IfOk result (λ r. TranslateReply (F.told files.old) file.now (F.faults files.old) (F.faults files.new) r.status r.text) }
-    ensures kept { F.told files.new ≡ F.told files.old }
-{
-    match read_all(alloc, files, file, SOURCE_LIMIT) {
-        Ok(content) => translate_content(alloc, &content),
-        Err(ReadAll::Failed) => refusal(alloc, 2, "refused 2 read\n"),
-        Err(ReadAll::TooLong(_)) => refusal(alloc, 10, "refused 10 limit source 1048577\n"),
-        Err(ReadAll::Memory) => Err(NoMem),
-    }
-}
-
-/// The translation of a content, or its refusal.
-fn translate_content(alloc: Global, content: &[u8]) -> Result<Reply, NoMem>
-    requires { length content.now < 2 ^ 32 }
-    ensures { IfOk result (λ r. ContentReply content.now r.status r.text) }
-{
-    match read(alloc, content) {
-        Ok(program) => {
-            let defs = translate(alloc, &program)?;
-            let text = print(alloc, &defs)?;
-            Ok(Reply { status: 0, text })
+        Some(Command::Run(file, name, fuel, values)) => {
+            run_file(alloc, files, file, name, fuel, values)
         }
-        Err(ReadFault::Syntax) => refusal(alloc, 5, "refused 5 syntax\n"),
-        Err(ReadFault::Memory) => Err(NoMem),
     }
 }

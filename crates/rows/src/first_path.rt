@@ -10,17 +10,19 @@ const HEADER: &str = "import AenPrelude\nopen AenPrelude\n";
 
 const SYNTAX: &str = "refused 5 syntax\n";
 
+const TRANSLATE: &[&str] = &["translate", "a.rs"];
+
 /// The texts are those of the specification's worked examples and of the reference.
 const ROWS: &[Row] = &[
     Row {
         content: ADD1,
-        words: &["translate", "a.rs"],
+        words: TRANSLATE,
         status: 0,
         text: ADD1_TEXT,
     },
     Row {
         content: b"",
-        words: &["translate", "a.rs"],
+        words: TRANSLATE,
         status: 0,
         text: HEADER,
     },
@@ -44,31 +46,31 @@ const ROWS: &[Row] = &[
     },
     Row {
         content: b"fn f() -> u32 { g() }",
-        words: &["translate", "a.rs"],
+        words: TRANSLATE,
         status: 5,
         text: SYNTAX,
     },
     Row {
         content: b"fn \xff",
-        words: &["translate", "a.rs"],
+        words: TRANSLATE,
         status: 5,
         text: SYNTAX,
     },
     Row {
         content: b"fn f() -> u32 { 4294967296 }",
-        words: &["translate", "a.rs"],
+        words: TRANSLATE,
         status: 5,
         text: SYNTAX,
     },
     Row {
         content: b"fn f() -> u32 { f() }",
-        words: &["translate", "a.rs"],
+        words: TRANSLATE,
         status: 5,
         text: SYNTAX,
     },
     Row {
         content: b"fn f() -> u32 { 1 } fn f() -> u32 { 1 }",
-        words: &["translate", "a.rs"],
+        words: TRANSLATE,
         status: 5,
         text: SYNTAX,
     },
@@ -83,42 +85,77 @@ fn worked_examples(rt: HostRuntime) -> Result<(), NoMem> {
     Ok(())
 }
 
-/// A sink that takes ten bytes a call and fails at its second call holds a prefix.
-#[test]
-fn a_sink_that_fails_holds_a_prefix(rt: HostRuntime) -> Result<(), NoMem> {
-    let outside = Outside {
-        reads: &[],
-        writes: &[1],
-        piece: 10,
-    };
-    let held = answers(
-        rt.alloc(),
-        &outside,
-        ADD1,
-        &["translate", "a.rs"],
-        3,
-        b"import Aen",
-    )?;
-    assert!(rt; held);
-    Ok(())
-}
-
 /// The longest source is read, and one byte more is refused.
 #[test]
 fn the_limit_of_a_source(rt: HostRuntime) -> Result<(), NoMem> {
     let mut spaces = vec![in rt.alloc(); 32u8; 1_048_576]?;
-    let within = answers(
-        rt.alloc(),
-        &GOOD,
-        &spaces,
-        &["translate", "a.rs"],
-        0,
-        HEADER.as_bytes(),
-    )?;
+    let within = answers(rt.alloc(), &GOOD, &spaces, TRANSLATE, 0, HEADER.as_bytes())?;
     assert!(rt; within);
     spaces.push(32)?;
     let line = b"refused 10 limit source 1048577\n";
-    let above = answers(rt.alloc(), &GOOD, &spaces, &["translate", "a.rs"], 10, line)?;
+    let above = answers(rt.alloc(), &GOOD, &spaces, TRANSLATE, 10, line)?;
     assert!(rt; above);
+    Ok(())
+}
+
+/// The first or the second read fails: the file is read in two calls, the second of which finds
+/// its end.
+#[test]
+fn reads_that_fail(rt: HostRuntime) -> Result<(), NoMem> {
+    const FAILS: &[&[u64]] = &[&[0], &[1]];
+    for reads in FAILS {
+        let outside = Outside {
+            reads,
+            writes: &[],
+            piece: 1_000_000,
+        };
+        let refused = answers(
+            rt.alloc(),
+            &outside,
+            ADD1,
+            TRANSLATE,
+            2,
+            b"refused 2 read\n",
+        )?;
+        assert!(rt; refused);
+    }
+    Ok(())
+}
+
+/// A sink that takes ten bytes a call and fails at one call holds what the calls before took.
+#[test]
+fn writes_that_fail(rt: HostRuntime) -> Result<(), NoMem> {
+    const FAILS: &[&[u64]] = &[
+        &[0],
+        &[1],
+        &[2],
+        &[3],
+        &[4],
+        &[5],
+        &[6],
+        &[7],
+        &[8],
+        &[9],
+        &[10],
+        &[11],
+        &[12],
+        &[13],
+        &[14],
+        &[15],
+        &[16],
+    ];
+    let text = ADD1_TEXT.as_bytes();
+    let mut held = 0usize;
+    for writes in FAILS {
+        let outside = Outside {
+            reads: &[],
+            writes,
+            piece: 10,
+        };
+        let prefix = &text[..held.min(text.len())];
+        let stopped = answers(rt.alloc(), &outside, ADD1, TRANSLATE, 3, prefix)?;
+        assert!(rt; stopped);
+        held = held.saturating_add(10);
+    }
     Ok(())
 }

@@ -4,4 +4,6 @@
 #[cfg(test)]
 mod first_path;
 #[cfg(test)]
+mod running;
+#[cfg(test)]
 mod table;

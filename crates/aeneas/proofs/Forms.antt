@@ -1,0 +1,42 @@
+-- The forms of words: what the parts of a command say of the words, and words that are too long.
+use Rattle.std.proofs.Common.{◌≡◌, ◌∙◌, ℕ, List, [], ◌∷◌, arith, subst, sym}
+use Rattle.std.specs.Prelude.{All, MatchOption, Option, None, Some, codes}
+use Rattle.std.proofs.lemmas.List.Elements.{All-cons}
+use Rattle.aeneas.specs.declared.command.Command.{Command}
+use Rattle.aeneas.specs.declared.command.Command.TheVariants.{Translate, Run}
+use Rattle.aeneas.specs.Words.{IsShort, IsFuel, IsTranslate, HasNoForm}
+use Rattle.aeneas.specs.Parsed.{IsCommand, IsRunParts}
+
+all_none : {X : Type 0} (P : X → Type 0) → All P []
+all_none P k d h = absurd (omega arith)
+
+-- words of a form are short
+translate_short : (words : List (List ℕ)) (file : List ℕ) → IsTranslate words file → All IsShort words
+translate_short words file t =
+    subst (All IsShort) (sym t.words_are)
+    (All-cons IsShort (codes "translate") (file ∷ []) (omega arith) (All-cons IsShort file [] t.short (all_none IsShort)))
+
+pub too_long : (words : List (List ℕ)) → (All IsShort words → ⊥) → HasNoForm words
+too_long words long = record {
+  translate = λ file t. long (translate_short words file t);
+  run = λ file name fuel values r. long r.short;
+}
+
+-- a command's words are `run` and its parts
+pub run_form : (words : List (List ℕ)) (file name fuel : List ℕ) (values : List (List ℕ)) →
+    words ≡ codes "run" ∷ file ∷ name ∷ fuel ∷ values → All IsShort words → (o : Option Command) →
+    MatchOption o (IsFuel fuel → ⊥) (IsRunParts file name fuel values) → MatchOption o (HasNoForm words) (IsCommand words)
+run_form words file name fuel values are short None none = record {
+  translate = λ f t. (let e = sym are ∙ t.words_are in cc);
+  run = λ f n w vs r. none (subst IsFuel (let e = sym are ∙ r.words_are in cc) r.is_fuel);
+}
+run_form words file name fuel values are short (Some (Translate x)) parts = absurd parts
+run_form words file name fuel values are short (Some (Run f n k vs)) parts = record {
+  word = fuel;
+  run = record {
+    words_are = are ∙ (λ i. codes "run" ∷ sym parts.1 i ∷ sym parts.2 i ∷ fuel ∷ sym parts.4 i);
+    is_fuel = parts.0;
+    short = short;
+  };
+  number = parts.3;
+}

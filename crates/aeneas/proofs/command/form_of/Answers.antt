@@ -1,0 +1,33 @@
+-- The words are those of the form.
+use Rattle.std.proofs.Common.{◌≡◌, ◌∙◌, ap, map, ◌<◌, ◌-◌, [], ◌∷◌, length, take, drop, arith, sym, subst}
+use Rattle.std.specs.Prelude.{codes}
+use Rattle.std.specs.String.{string_bytes, string_len}
+use Rattle.std.proofs.lemmas.List.Elements.{All-map}
+use Rattle.aeneas.specs.Words.{IsShort}
+use Rattle.aeneas.proofs.WordLemmas.{two_items, four_items, same_bytes, len_is, short_by_len}
+use Rattle.aeneas.proofs.Forms.{run_form}
+use Rattle.aeneas.proofs.command.form_of.Goals as goal
+
+pub returns-in-len2 : goal.returns-in-len2
+returns-in-len2 c =
+    let two = two_items c.args.words.now c.command-item.result c.file-item.result c.in-len2.len_at_least c.in-len2.len_below c.command-item.is c.file-item.is in
+    let command = same_bytes c.as_str.result.now (codes "translate") (sym c.if-eq.ensures) in
+    let same : c.as_str-in-len2.result.now ≡ string_bytes c.file-item.result = c.as_str-in-len2.ensures.value in
+    let within : 1 < length c.args.words.now = omega (arith, c.in-len2.len_at_least) in
+    let at_one = c.requires 1 c.file-item.result within in
+    let small : string_len c.file-item.result < 4294967296 = subst (λ w. string_len w < 4294967296) (sym c.file-item.is) at_one in
+    record {
+      words_are = ap (λ ws. map string_bytes ws) two ∙ (λ i. (sym c.as_str.ensures.value ∙ command) i ∷ sym same i ∷ []);
+      short = subst IsShort (sym same) (subst (λ n. n < 4294967296) (len_is c.file-item.result) small);
+    }
+
+pub returns-in-len4-up : goal.returns-in-len4-up
+returns-in-len4-up c =
+    let four = four_items c.args.words.now c.command-item-2.result c.file-item-2.result c.name-item.result c.fuel-item.result c.in-len4-up.len_at_least
+    c.command-item-2.is c.file-item-2.is c.name-item.is c.fuel-item.is in
+    let command = same_bytes c.as_str-2.result.now (codes "run") (sym c.if-eq-2.ensures) in
+    let rest = map string_bytes (take (length c.args.words.now - 4) (drop 4 c.args.words.now)) in
+    run_form (map string_bytes c.args.words.now) c.as_str-in-len4-up.result.now c.as_str-in-len4-up-2.result.now c.as_str-in-len4-up-3.result.now rest
+    (ap (λ ws. map string_bytes ws) four
+    ∙ (λ i. (sym c.as_str-2.ensures.value ∙ command) i ∷ sym c.as_str-in-len4-up.ensures.value i ∷ sym c.as_str-in-len4-up-2.ensures.value i ∷ sym c.as_str-in-len4-up-3.ensures.value i ∷ rest))
+    (All-map IsShort string_bytes c.args.words.now (short_by_len c.args.words.now c.requires)) c.run_command.result c.run_command.ensures

@@ -1,0 +1,115 @@
+ghost use Rattle.std.specs.Prelude.{◌≡◌, IfOk, map, slice_get, IsSomeAnd};
+ghost use Rattle.std.specs.String.{string_bytes};
+ghost use Rattle.source_meaning.specs.Typing.{IsTyped};
+ghost use Rattle.pointer_machine.specs.Outcomes.{IsSettled};
+ghost use Rattle.aeneas.specs.Run.{RunReply, ProgramReply, CallReply, OutcomeReply, FaultReply};
+
+use crate::reply::{Reply, one_line};
+use crate::source::{Source, source_of};
+use aen_base::{FnId, NoMem, Text, at};
+use aen_io::Files;
+use call_frame::{ArgFault, Outcome, arguments, function_named, print_value};
+use pointer_machine::run;
+use rust_ast::Program;
+use std::alloc::Global;
+
+/// The greatest FUEL.
+const FUEL_LIMIT: u64 = 256;
+
+/// `run FILE FN FUEL VALUE..`. The only error is want of memory.
+pub fn run_file<F: Files>(
+    alloc: Global,
+    files: &mut F,
+    file: &str,
+    name: &str,
+    fuel: u64,
+    values: &[String],
+) -> Result<Reply, NoMem>
+    ensures reply { IfOk result (λ r. RunReply (F.told files.old) file.now name.now (map string_bytes values.now) fuel (F.faults files.old) (F.faults files.new) r.status r.text) }
+    ensures kept { F.told files.new ≡ F.told files.old }
+{
+    if fuel > FUEL_LIMIT {
+        let line = format!(in alloc; "refused 10 limit fuel {fuel}\n")?;
+        return one_line(alloc, 10, line.as_str());
+    }
+    match source_of(alloc, files, file)? {
+        Source::Read(program) => run_program(alloc, &program, name, fuel, values),
+        Source::Refused(reply) => Ok(reply),
+    }
+}
+
+/// Runs the function with a name.
+fn run_program(
+    alloc: Global,
+    program: &Program,
+    name: &str,
+    fuel: u64,
+    values: &[String],
+) -> Result<Reply, NoMem>
+    requires { IsTyped program.now }
+    ensures { IfOk result (λ r. ProgramReply program.now name.now (map string_bytes values.now) fuel r.status r.text) }
+{
+    match function_named(program, name) {
+        Some(function) => call(alloc, program, function, fuel, values),
+        None => one_line(alloc, 13, "refused 13 name\n"),
+    }
+}
+
+/// Calls a function with the values that words write.
+fn call(
+    alloc: Global,
+    program: &Program,
+    f: FnId,
+    fuel: u64,
+    values: &[String],
+) -> Result<Reply, NoMem>
+    requires typed { IsTyped program.now }
+    requires there { IsSomeAnd (slice_get program.now.functions f.0) (λ _. Unit {0}) }
+    ensures { IfOk result (λ r. CallReply program.now f.0 (map string_bytes values.now) fuel r.status r.text) }
+{
+    let Some(function) = at(program.functions.as_slice(), f.0 as usize) else {
+        unreachable!()
+    };
+    match arguments(alloc, function, values) {
+        Ok(args) => outcome_reply(alloc, run(alloc, program, f, args.as_slice(), fuel)?),
+        Err(fault) => fault_reply(alloc, fault),
+    }
+}
+
+/// The refusal of words that are no arguments.
+fn fault_reply(alloc: Global, fault: ArgFault) -> Result<Reply, NoMem>
+    ensures { IfOk result (λ r. FaultReply fault r.status r.text) }
+{
+    match fault {
+        ArgFault::WrongCount(expected, given) => {
+            let line = format!(in alloc; "refused 11 count {expected} {given}\n")?;
+            one_line(alloc, 11, line.as_str())
+        }
+        ArgFault::BadValue(place) => {
+            let line = format!(in alloc; "refused 11 argument {place}\n")?;
+            one_line(alloc, 11, line.as_str())
+        }
+        ArgFault::Memory => Err(NoMem),
+    }
+}
+
+/// The line of an outcome.
+fn outcome_reply(alloc: Global, outcome: Outcome) -> Result<Reply, NoMem>
+    requires { IsSettled outcome }
+    ensures { IfOk result (λ r. OutcomeReply outcome r.status r.text) }
+{
+    match outcome {
+        Outcome::Value(value) => {
+            let text = print_value(alloc, &value)?;
+            let written = text.as_str();
+            let line = format!(in alloc; "value {written}\n")?;
+            Ok(Reply {
+                status: 0,
+                text: Text::new(line),
+            })
+        }
+        Outcome::Panic(_) => one_line(alloc, 20, "panic\n"),
+        Outcome::More => one_line(alloc, 21, "more\n"),
+        Outcome::Stuck(_) => unreachable!(),
+    }
+}

@@ -1,0 +1,36 @@
+ghost use Rattle.std.specs.Prelude.{◌≡◌, IfOk};
+ghost use Rattle.source_meaning.specs.Typing.{IsTyped};
+ghost use Rattle.aeneas.specs.Reply.{TranslateReply};
+ghost use Rattle.aeneas.specs.Translation.{IsTextOf};
+
+use crate::reply::Reply;
+use crate::source::{Source, source_of};
+use aen_base::{NoMem, Text};
+use aen_io::Files;
+use lean_printer::print;
+use rust_ast::Program;
+use std::alloc::Global;
+use translate::translate;
+
+/// `translate FILE`. The only error is want of memory.
+pub fn translate_file<F: Files>(alloc: Global, files: &mut F, file: &str) -> Result<Reply, NoMem>
+    ensures reply { IfOk result (λ r. TranslateReply (F.told files.old) file.now (F.faults files.old) (F.faults files.new) r.status r.text) }
+    ensures kept { F.told files.new ≡ F.told files.old }
+{
+    match source_of(alloc, files, file)? {
+        Source::Read(program) => {
+            let text = text_of(alloc, &program)?;
+            Ok(Reply { status: 0, text })
+        }
+        Source::Refused(reply) => Ok(reply),
+    }
+}
+
+/// The text of a program's definitions.
+fn text_of(alloc: Global, program: &Program) -> Result<Text, NoMem>
+    requires { IsTyped program.now }
+    ensures { IfOk result (IsTextOf program.now) }
+{
+    let defs = translate(alloc, program)?;
+    print(alloc, &defs)
+}
