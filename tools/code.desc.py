@@ -9,16 +9,6 @@ use Rattle.pure_ast.specs.declared.comp.Comp.{Comp}
 use Rattle.pure_ast.specs.contracts.comp.Comp as comp_row
 use Rattle.pure_ast.specs.declared.pat.Pat.{Pat}
 use Rattle.pure_ast.specs.contracts.pat.Pat as pat_row
-
-abbrev head : Gv → Gv
-head gnil = gnil
-head (gnum n) = gnil
-head (gcons a b) = a
-
-abbrev tail : Gv → Gv
-tail gnil = gnil
-tail (gnum n) = gnil
-tail (gcons a b) = b
 '''
 ATOMS = {"ℕ": "coded_ℕ", "Term": "coded_term", "Comp": "comp_row.the_row.coded", "Pat": "pat_row.the_row.coded"}
 SORTS = {"Code": [("bind", ["ℕ", "Comp", "Code"]), ("put", ["ℕ", "Term", "Code"]), ("select", ["Term", "Arms"]), ("last", ["Comp"]),

@@ -8,16 +8,6 @@ use Rattle.aen_base.specs.declared.span.Span.{Span}
 use Rattle.aen_base.specs.contracts.span.Span as span
 use Rattle.aen_base.specs.declared.operators.BinOp.{BinOp}
 use Rattle.aen_base.specs.contracts.operators.BinOp as op
-
-abbrev head : Gv → Gv
-head gnil = gnil
-head (gnum n) = gnil
-head (gcons a b) = a
-
-abbrev tail : Gv → Gv
-tail gnil = gnil
-tail (gnum n) = gnil
-tail (gcons a b) = b
 '''
 ATOMS = {"ℕ": "coded_ℕ", "Number": "coded_number", "Span": "span.the_row.coded", "BinOp": "op.the_row.coded"}
 SORTS = {

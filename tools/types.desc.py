@@ -6,16 +6,6 @@ use Rattle.std.proofs.Common.{ap, sym, ◌∙◌, subst}
 use base.Stored.{Gv, gnil, gnum, gcons, num}
 use Rattle.aen_base.specs.declared.int_ty.IntTy.{IntTy}
 use Rattle.aen_base.specs.contracts.int_ty.IntTy as int_ty
-
-abbrev head : Gv → Gv
-head gnil = gnil
-head (gnum n) = gnil
-head (gcons a b) = a
-
-abbrev tail : Gv → Gv
-tail gnil = gnil
-tail (gnum n) = gnil
-tail (gcons a b) = b
 '''
 ATOMS = {"ℕ": "coded_ℕ", "IntTy": "int_ty.the_row.coded"}
 SORTS = {"PTy": [("integer", ["IntTy"]), ("boolean", []), ("unit", []), ("product", ["PTys"]), ("named", ["ℕ", "PTys"]),

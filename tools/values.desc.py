@@ -7,16 +7,6 @@ use base.Stored.{Gv, gnil, gnum, gcons, num}
 use Rattle.aen_base.specs.Numbers.{Number, coded_number}
 use Rattle.pure_ast.specs.declared.ctor.CtorId.{CtorId}
 use Rattle.pure_ast.specs.contracts.ctor.CtorId as ctor_id
-
-abbrev head : Gv → Gv
-head gnil = gnil
-head (gnum n) = gnil
-head (gcons a b) = a
-
-abbrev tail : Gv → Gv
-tail gnil = gnil
-tail (gnum n) = gnil
-tail (gcons a b) = b
 '''
 ATOMS = {"Bool": "coded_bool", "Number": "coded_number", "CtorId": "ctor_id.the_row.coded"}
 SORTS = {"PValue": [("number", ["Number"]), ("truth", ["Bool"]), ("tuple", ["PValues"]), ("built", ["CtorId", "PValues"])]}
