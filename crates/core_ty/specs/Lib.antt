@@ -7,3 +7,4 @@ pub mod Positions
 pub mod Signatures
 pub mod Containment
 pub mod Marks
+pub mod Ranks

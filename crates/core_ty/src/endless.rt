@@ -61,7 +61,7 @@ fn contains_itself(
     requires shape { spec.HasShape decls.now rows.now }
     requires sound { spec.AreSound decls.now rows.now }
     requires complete { (d : ℕ) → spec.IsComplete decls.now rows.now d }
-    requires clear { spec.IsClear decls.now rows.now clear.now }
+    requires clear { spec.IsClear decls.now clear.now }
     ensures { IfOk result (λ b. MatchBool b (IsEndless decls.now decl) (IsEndless decls.now decl → ⊥)) }
 {
     if is_set(clear, decl) {

@@ -3,6 +3,7 @@
 
 mod builtins;
 mod clear;
+mod components;
 mod copy;
 mod decl;
 mod endless;
