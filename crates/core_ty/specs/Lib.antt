@@ -8,3 +8,4 @@ pub mod Signatures
 pub mod Containment
 pub mod Marks
 pub mod Ranks
+pub mod Spread

@@ -8,12 +8,12 @@ mod copy;
 mod decl;
 mod endless;
 mod marks;
-mod order;
 mod parts;
 mod places;
 mod same;
 mod search;
 mod shape;
+mod spread;
 mod substitution;
 mod ty;
 
