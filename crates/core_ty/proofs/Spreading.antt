@@ -1,18 +1,16 @@
 -- What is held is held in the types within; a mark that follows is in each closed table.
 use Rattle.std.proofs.Common.{◌≡◌, ℕ, zero, suc, ◌+◌, ◌<◌, Bool, true, false, if◌then◌else◌, List, [], ◌∷◌, ◌++◌, length, get_or, slice_get, Some, refl, sym, ◌∙◌, ap, subst, arith}
 use Rattle.std.specs.List.{All, AllByRecursion}
-use Rattle.std.proofs.lemmas.List.Elements.{All-from_recursion, recursion_from_All, All-append, All-cons, All-nil, All-same, All-weaker, All-get_or}
+use Rattle.std.proofs.lemmas.List.Elements.{All-from_recursion, recursion_from_All, All-append, All-cons, All-nil, All-same, All-weaker}
 use Rattle.aen_base.specs.declared.ids.TypeId.{TypeId}
 use Rattle.core_ty.specs.declared.decl.TypeDecl.{TypeDecl}
 use Rattle.core_ty.specs.declared.decl.Variant.{Variant}
 use Rattle.core_ty.specs.declared.parts.Part.{Part}
 use Rattle.core_ty.specs.declared.parts.Part.TheVariants.{Parameter}
-use Rattle.core_ty.specs.declared.spread.Held.{Held}
-use Rattle.core_ty.specs.declared.spread.Argument.{Argument}
 use Rattle.core_ty.specs.Types as t
 use Rattle.core_ty.specs.Containment.{Table, IsClosed, IsOf, parts, parts_of_all, parts_given, parts_of_fields, parts_of_variants}
-use Rattle.core_ty.specs.Marks.{is_set, row_of, marked, HasShape, AreSound}
-use Rattle.core_ty.specs.Spread.{IsIn, Holds, HoldsFields, HoldsVariants, Waits, IsHeld, IsWaiting, Fits, IsSpread}
+use Rattle.core_ty.specs.Marks.{row_of, marked, HasShape, AreSound}
+use Rattle.core_ty.specs.Spread.{IsIn, Holds, HoldsFields, HoldsVariants, Waits, Fits}
 use Rattle.core_ty.proofs.Tables.{left, right, with_mark, marked_fits}
 use Rattle.core_ty.proofs.Reaching.{same_decl}
 

@@ -13,7 +13,7 @@ use Rattle.core_ty.specs.declared.parts.Part.TheVariants.{Parameter, Declared}
 use Rattle.core_ty.specs.Containment.{Table, IsClosed, IsOf, IsEndless, parts_of_variants}
 use Rattle.core_ty.specs.Marks.{is_set, row_of, marked, HasShape, IsMarked, IsComplete, IsSeen, IsReach, parts_by, AreSound, IsClear}
 use Rattle.core_ty.proofs.Tables.{fewer, row_fits, unset_everywhere}
-use Rattle.core_ty.proofs.Reaching.{set_from, set_kept, all_kept, same_decl}
+use Rattle.core_ty.proofs.Reaching.{set_from}
 
 module _ (ds : List TypeDecl) (rows : List (List Bool)) (start : ℕ) (seen : List Bool)
     (shape : HasShape ds rows) (complete : (d : ℕ) → IsComplete ds rows d) (same : length seen ≡ length ds)

@@ -3,7 +3,7 @@
 ghost use Rattle.std.specs.Prelude.{◌≡◌, ◌↔◌, ℕ, ◌<◌, ◌≤◌, length, IsTrue, IfOk, OnOk};
 ghost use Rattle.std.specs.List.{All};
 ghost use Rattle.core_ty.specs.Marks as spec;
-ghost use Rattle.core_ty.specs.Ranks as spec_ranks;
+ghost use Rattle.core_ty.specs.Ranks as ranking;
 
 use crate::TypeDecl;
 use crate::components::ranks;
@@ -40,7 +40,7 @@ fn falling(
 ) -> Result<List<bool>, NoMem>
     requires shape { spec.HasShape decls.now rows.now }
     requires complete { (d : ℕ) → spec.IsComplete decls.now rows.now d }
-    requires ranked { spec_ranks.AreRanks decls.now rows.now ranks.now }
+    requires ranked { ranking.AreRanks decls.now rows.now ranks.now }
     ensures { IfOk result (λ marks. spec.IsClear decls.now marks) }
 {
     let mut marks = equal_row(alloc, decls.len(), false)?;
@@ -62,7 +62,7 @@ fn clear_one(
     requires within { decl < length decls.now }
     requires shape { spec.HasShape decls.now rows.now }
     requires complete { (d : ℕ) → spec.IsComplete decls.now rows.now d }
-    requires ranked { spec_ranks.AreRanks decls.now rows.now ranks.now }
+    requires ranked { ranking.AreRanks decls.now rows.now ranks.now }
     requires clear { (length marks.old ≡ length decls.now) × spec.IsClear decls.now marks.old }
     ensures { OnOk result ((length marks.new ≡ length decls.now) × spec.IsClear decls.now marks.new) }
 {
@@ -80,7 +80,7 @@ fn are_ranked(
     ranks: &[usize],
 ) -> Result<bool, NoMem>
     requires { length ranks.now ≡ length decls.now }
-    ensures { IfOk result (λ b. IsTrue b → spec_ranks.AreRanks decls.now rows.now ranks.now) }
+    ensures { IfOk result (λ b. IsTrue b → ranking.AreRanks decls.now rows.now ranks.now) }
 {
     for decl in 0..decls.len() {
         let parts = parts_of(alloc, rows, &decls[decl])?;
@@ -100,7 +100,7 @@ fn falls(
     decl: usize,
 ) -> Result<bool, NoMem>
     requires { decl < length decls.now }
-    ensures { IfOk result (λ b. IsTrue b → spec_ranks.Falls decls.now rows.now ranks.now decl) }
+    ensures { IfOk result (λ b. IsTrue b → ranking.Falls decls.now rows.now ranks.now decl) }
 {
     let rank = rank_of(ranks, decl);
     if rank == 0 {
@@ -112,7 +112,7 @@ fn falls(
 
 /// The rank in this place.
 fn rank_of(ranks: &[usize], place: usize) -> usize
-    ensures { result ≡ spec_ranks.rank_of ranks.now place }
+    ensures { result ≡ ranking.rank_of ranks.now place }
 {
     match at(ranks, place) {
         Some(rank) => *rank,
@@ -122,7 +122,7 @@ fn rank_of(ranks: &[usize], place: usize) -> usize
 
 /// Whether no declared type among the parts has a rank above `top`.
 fn all_within(ranks: &[usize], top: usize, parts: &[Part]) -> bool
-    ensures { IsTrue result ↔ All (spec_ranks.IsWithin ranks.now top) parts.now }
+    ensures { IsTrue result ↔ All (ranking.IsWithin ranks.now top) parts.now }
 {
     for part in parts {
         if !is_within(ranks, top, *part) {
@@ -133,7 +133,7 @@ fn all_within(ranks: &[usize], top: usize, parts: &[Part]) -> bool
 }
 
 fn is_within(ranks: &[usize], top: usize, part: Part) -> bool
-    ensures { IsTrue result ↔ spec_ranks.IsWithin ranks.now top part }
+    ensures { IsTrue result ↔ ranking.IsWithin ranks.now top part }
 {
     match part {
         Part::Parameter(_) => true,

@@ -87,6 +87,7 @@ fn walk(
 ) -> Result<(), NoMem> {
     let mut steps = List::new(alloc);
     steps.push((from, false))?;
+    // the steps run out: each link is entered once at most
     for _turn in 0..usize::MAX {
         let Some((decl, leaves)) = steps.pop() else {
             break;
@@ -119,11 +120,7 @@ fn take_number(numbers: &mut List<usize>, decl: usize, number: usize) -> bool {
 }
 
 /// Enters those without a number among the next steps.
-fn enter(
-    next: &[usize],
-    numbers: &[usize],
-    steps: &mut List<(usize, bool)>,
-) -> Result<(), NoMem> {
+fn enter(next: &[usize], numbers: &[usize], steps: &mut List<(usize, bool)>) -> Result<(), NoMem> {
     for decl in next {
         if let Some(0) = at(numbers, *decl) {
             steps.push((*decl, false))?;

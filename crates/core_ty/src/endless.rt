@@ -35,7 +35,8 @@ impl From<NoMem> for DeclFault {
 
 /// Looks for a type that contains itself outside Box, where an argument of a declared type counts as
 /// far as the declaration has its parameter outside Box. `EndlessType` comes exactly where there is
-/// one, and names the first; `Memory` is want of memory.
+/// one, and names the first; `Memory` is want of memory. The time is linear in the declarations and
+/// the types in them.
 pub fn check_decls(alloc: Global, decls: &[TypeDecl]) -> Result<(), DeclFault>
     ensures { IsVerdict decls.now result }
 {

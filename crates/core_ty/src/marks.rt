@@ -20,7 +20,7 @@ pub(crate) fn marks(alloc: Global, decls: &[TypeDecl]) -> Result<List<List<bool>
 {
     let mut rows = no_marks(alloc, decls)?;
     spread(alloc, decls, &mut rows)?;
-    // none is left; the marks found are not trusted, but checked
+    // none is left; this is the check that they are all
     while let Some((decl, number)) = next_unmarked(alloc, decls, rows.as_slice())? {
         mark(&mut rows, decl, number);
     }

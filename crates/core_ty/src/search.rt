@@ -116,7 +116,7 @@ fn pending(seen: &List<bool>, done: &List<bool>) -> Option<usize>
         (λ e. (e < length done.now) × (spec.is_set seen.now e ≡ true) × (spec.is_set done.now e ≡ false)) }
 {
     for place in 0..seen.len() {
-        if is_set(seen.as_slice(), place) && !is_set(done.as_slice(), place) {
+        if is_pending(seen, done, place) {
             return Some(place);
         }
     }

@@ -44,6 +44,7 @@ pub(crate) fn spread(
     let mut held = all_fields(alloc, decls)?;
     let mut waiting = List::new(alloc);
     let mut heads = no_heads(alloc, decls)?;
+    // the types run out: each type in a field is held once at most
     for _turn in 0..usize::MAX {
         let Some(next) = held.pop() else {
             break;
@@ -119,8 +120,15 @@ fn take_turn<'a>(
     let Held { user, ty } = next;
     match &ty.node {
         TyNode::Tuple(parts) => enter_parts(user, parts.as_slice(), held),
-        TyNode::Named(decl, args) =>
-            enter_arguments(user, *decl, args.as_slice(), rows.as_slice(), held, waiting, heads),
+        TyNode::Named(decl, args) => enter_arguments(
+            user,
+            *decl,
+            args.as_slice(),
+            rows.as_slice(),
+            held,
+            waiting,
+            heads,
+        ),
         TyNode::Param(number) => {
             let part = Part::Parameter(*number);
             if let Some(place) = unmarked_place(row_of(rows.as_slice(), user), part) {
@@ -136,11 +144,7 @@ fn take_turn<'a>(
 }
 
 /// A tuple's parts are held where the tuple is.
-fn enter_parts<'a>(
-    user: usize,
-    parts: &'a [Ty],
-    held: &mut List<Held<'a>>,
-) -> Result<(), NoMem>
+fn enter_parts<'a>(user: usize, parts: &'a [Ty], held: &mut List<Held<'a>>) -> Result<(), NoMem>
     ensures { (ds : spec.Decls) → spec.Holds ds user (tuple (tys parts.now)) → All (spec.IsHeld ds) held.old →
         OnOk result (All (spec.IsHeld ds) held.new) }
 {

@@ -9,7 +9,7 @@ pub loop-user-preserved : goal.loop-user-preserved
 loop-user-preserved c =
     let decl = get_or c.args.decls.now c.loop-user.user c.index-decls-user.result in
     let here : slice_get c.args.decls.now c.loop-user.user ≡ Some decl =
-        slice_get-get_or c.args.decls.now c.loop-user.user c.index-decls-user.result c.loop-user-test.true in
+    slice_get-get_or c.args.decls.now c.loop-user.user c.index-decls-user.result c.loop-user-test.true in
     c.in_ok-enter_variants.ensures c.args.decls.now
     (subst (λ (vs : List Variant). HoldsVariants c.args.decls.now c.loop-user.user vs) (sym c.as_slice.ensures)
     (own_held c.args.decls.now c.loop-user.user decl here))

@@ -7,9 +7,12 @@ use Rattle.core_ty.proofs.spread.enter_argument.Goals as goal
 pub returns-then-is_marked : goal.returns-then-is_marked
 returns-then-is_marked c ds waits sound held waiting =
     on_ok_weaker c.push.result
-    (λ e. (pushed (IsHeld ds) c.args.held.now c.push.new.self _ e
-    (waited ds c.args.rows.now c.args.argument.decl c.args.argument.place c.args.argument.user c.args.argument.ty.now sound
-    (sym c.is_marked.ensures ∙ c.if-is_marked.true) waits) held, waiting))
+    (λ e. (
+      pushed (IsHeld ds) c.args.held.now c.push.new.self _ e
+          (waited ds c.args.rows.now c.args.argument.decl c.args.argument.place c.args.argument.user c.args.argument.ty.now sound
+          (sym c.is_marked.ensures ∙ c.if-is_marked.true) waits) held,
+      waiting,
+    ))
     c.push.ensures.ok
 
 pub returns-else-is_marked : goal.returns-else-is_marked
