@@ -1,9 +1,9 @@
 -- Tables, their marks, and the parts that stand in types by them.
-use Rattle.std.proofs.Common.{◌≡◌, ℕ, zero, suc, ◌+◌, ◌<◌, Bool, true, false, if◌then◌else◌, List, [], ◌∷◌, ◌++◌, length, map, replicate, length-set, slice_set, slice_get, unwrap_or, get_or, Some, ◌⊎◌, inl, inr, refl, sym, ◌∙◌, ap, subst, arith}
+use Rattle.std.proofs.Common.{◌≡◌, ℕ, zero, suc, ◌+◌, ◌<◌, Bool, true, false, if◌then◌else◌, List, [], ◌∷◌, ◌++◌, length, map, replicate, length-set, slice_set, slice_get, unwrap_or, Some, ◌⊎◌, inl, inr, refl, sym, ◌∙◌, ap, subst, arith}
 use Rattle.std.specs.List.{All, Contains, AllByRecursion}
 use Rattle.std.proofs.lemmas.List.Elements.{All-from_recursion, recursion_from_All, All-contains}
 use Rattle.std.proofs.lemmas.Bool.{cases_eq, true≢false}
-use Rattle.std.proofs.lemmas.List.{length-replicate, get_or_default}
+use Rattle.std.proofs.lemmas.List.{length-replicate}
 use Rattle.core_ty.specs.declared.decl.TypeDecl.{TypeDecl}
 use Rattle.core_ty.specs.declared.decl.Variant.{Variant}
 use Rattle.core_ty.specs.declared.parts.Part.{Part}
@@ -13,11 +13,11 @@ use Rattle.core_ty.specs.Containment.{Table, parts, parts_of_all, parts_given, p
 use Rattle.core_ty.specs.Marks.{is_set, row_of, marked, HasShape, AreSound, IsUnmarked, parts_by, unset, unmarked}
 
 -- each of two lists and of both in a row
-left : (P : Part → Type 0) (xs ys : List Part) → AllByRecursion P (xs ++ ys) → AllByRecursion P xs
+pub left : (P : Part → Type 0) (xs ys : List Part) → AllByRecursion P (xs ++ ys) → AllByRecursion P xs
 left P [] ys h = tt
 left P (x ∷ xs) ys h = (h.0, left P xs ys h.1)
 
-right : (P : Part → Type 0) (xs ys : List Part) → AllByRecursion P (xs ++ ys) → AllByRecursion P ys
+pub right : (P : Part → Type 0) (xs ys : List Part) → AllByRecursion P (xs ++ ys) → AllByRecursion P ys
 right P [] ys h = h
 right P (x ∷ xs) ys h = right P xs ys h.1
 
@@ -197,16 +197,3 @@ turn_falls ds rows seen new d k e next made =
     let Next : List (List Bool) → Type 0 = λ r. IsUnmarked ds r d k in
     let here : IsUnmarked ds rows d k = subst Next e next in
     rw made (unmarked_falls rows d k here.2.0 here.2.1)
-
--- one part that is marked in a walk over a declaration's parts
-pub part_fits : (ds : List TypeDecl) (first rows new : List (List Bool)) (row : List Bool) (d k i : ℕ) (decl : TypeDecl) (ps : List Part) (z : Part) →
-    AreSound ds first → HasShape ds rows × AreSound ds rows → slice_get ds d ≡ Some decl → ps ≡ parts_by first decl →
-    i < length ps → row ≡ row_of rows d → (k < length row) × (is_set row k ≡ false) × (get_or ps i z ≡ Parameter k) →
-    new ≡ with_mark rows d k → HasShape ds new × AreSound ds new
-part_fits ds first rows new row d k i decl ps z sound fits at parts low e (short, unset, is) made =
-    let fits_row = row_fits ds rows d decl fits.0 at in
-    let short' : k < length (row_of rows d) = omega (arith, ap length e) in
-    let among : Contains ps (Parameter k) = (i, low, get_or_default ps i (Parameter k) z low ∙ is) in
-    let among' : Contains (parts_by first decl) (Parameter k) = subst (λ (qs : List Part). Contains qs (Parameter k)) parts among in
-    rw made (marked_fits ds rows d k fits.0 fits.1 short'
-    (λ has closed. part_inside ds first d decl (Parameter k) sound at among' (omega arith) has closed))

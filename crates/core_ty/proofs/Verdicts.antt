@@ -13,7 +13,7 @@ use Rattle.core_ty.specs.declared.parts.Part.TheVariants.{Parameter, Declared}
 use Rattle.core_ty.specs.Containment.{Table, IsClosed, IsOf, IsEndless, parts_of_variants}
 use Rattle.core_ty.specs.Marks.{is_set, row_of, marked, HasShape, IsMarked, IsComplete, IsSeen, IsReach, parts_by, AreSound, IsClear}
 use Rattle.core_ty.proofs.Tables.{fewer, row_fits, unset_everywhere}
-use Rattle.core_ty.proofs.Reaching.{set_from, set_kept, all_kept, same_decl}
+use Rattle.core_ty.proofs.Reaching.{set_from}
 
 module _ (ds : List TypeDecl) (rows : List (List Bool)) (start : ℕ) (seen : List Bool)
     (shape : HasShape ds rows) (complete : (d : ℕ) → IsComplete ds rows d) (same : length seen ≡ length ds)
@@ -130,42 +130,20 @@ pub next_not_endless : (ds : List TypeDecl) (n : ℕ) → ((k : ℕ) → k < n �
 next_not_endless ds n before here e = one_more ds n e (cases_lt e n) before here
 
 -- no declaration is marked yet
-pub none_clear : (ds : List TypeDecl) (rows : List (List Bool)) (marks : List Bool) → marks ≡ replicate (length ds) false →
-    IsClear ds rows marks
-none_clear ds rows marks none = record {
-  same = ap length none ∙ length-replicate (length ds) false;
-  onward = λ e decl s at. absurd (unmarked_yet e s);
-  none = λ e s endless. unmarked_yet e s;
-}
+pub none_clear : (ds : List TypeDecl) (marks : List Bool) → marks ≡ replicate (length ds) false → (length marks ≡ length ds) × IsClear ds marks
+none_clear ds marks none = (
+  ap length none ∙ length-replicate (length ds) false,
+  λ e s endless. true≢false (sym s ∙ ap (λ row. is_set row e) none ∙ unset_everywhere (length ds) e),
+)
+
+-- and one more, that doesn't contain itself
+pub one_clear : (ds : List TypeDecl) (marks after : List Bool) (d : ℕ) → (length marks ≡ length ds) × IsClear ds marks →
+    (IsEndless ds d → ⊥) → after ≡ slice_set marks d true → (length after ≡ length ds) × IsClear ds after
+one_clear ds marks after d (same, clear) here made = rw made (
+  length-set marks d true ∙ same,
+  λ e s. not_itself e (set_from marks d e s),
+)
   where
-    unmarked_yet : (e : ℕ) → is_set marks e ≡ true → ⊥
-    unmarked_yet e s = true≢false (sym s ∙ ap (λ row. is_set row e) none ∙ unset_everywhere (length ds) e)
-
--- and one more, all of whose types are marked
-pub one_clear : (ds : List TypeDecl) (rows : List (List Bool)) (marks after : List Bool) (d : ℕ) (decl : TypeDecl) →
-    HasShape ds rows → ((k : ℕ) → IsComplete ds rows k) → IsClear ds rows marks → is_set marks d ≡ false →
-    slice_get ds d ≡ Some decl → All (IsSeen marks) (parts_by rows decl) → after ≡ slice_set marks d true → IsClear ds rows after
-one_clear ds rows marks after d decl shape complete clear unset at all made = rw made (record {
-  same = length-set marks d true ∙ clear.same;
-  onward = λ e other s at'. parts_marked e other at' (set_from marks d e s);
-  none = λ e s. not_itself e (set_from marks d e s);
-})
-  where
-    low : d < length marks
-    low = let h = slice_get_within ds d decl at in omega (arith, clear.same)
-
-    all_of : (other : TypeDecl) → slice_get ds d ≡ Some other → All (IsSeen marks) (parts_by rows other)
-    all_of other at' = subst (λ (y : TypeDecl). All (IsSeen marks) (parts_by rows y)) (same_decl ds d decl other at at') all
-
-    parts_marked : (e : ℕ) (other : TypeDecl) → slice_get ds e ≡ Some other → (is_set marks e ≡ true) ⊎ (e ≡ d) →
-        All (IsSeen (slice_set marks d true)) (parts_by rows other)
-    parts_marked e other at' (inl s) =
-        all_kept marks (slice_set marks d true) (length-set marks d true) (set_kept marks d low) (parts_by rows other) (clear.onward e other s at')
-    parts_marked e other at' (inr x) =
-        all_kept marks (slice_set marks d true) (length-set marks d true) (set_kept marks d low) (parts_by rows other)
-        (all_of other (ap (λ i. slice_get ds i) (sym x) ∙ at'))
-
     not_itself : (e : ℕ) → (is_set marks e ≡ true) ⊎ (e ≡ d) → IsEndless ds e → ⊥
-    not_itself e (inl s) = clear.none e s
-    not_itself e (inr x) = subst (λ k. IsEndless ds k → ⊥) (sym x)
-        (not_endless ds rows d marks shape complete clear.same all_of clear.onward (slice_get_within ds d decl at) unset)
+    not_itself e (inl s) = clear e s
+    not_itself e (inr x) = subst (λ k. IsEndless ds k → ⊥) (sym x) here

@@ -7,3 +7,5 @@ pub mod Positions
 pub mod Signatures
 pub mod Containment
 pub mod Marks
+pub mod Ranks
+pub mod Spread

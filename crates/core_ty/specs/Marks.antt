@@ -75,11 +75,9 @@ pub record IsSearch (ds : List TypeDecl) (rows : List (List Bool)) (start : ℕ)
   pub first : (decl : TypeDecl) → slice_get ds start ≡ Some decl → All (IsSeen seen) (parts_by rows decl)
   pub onward : (e : ℕ) (decl : TypeDecl) → is_set done e ≡ true → slice_get ds e ≡ Some decl → All (IsSeen seen) (parts_by rows decl)
 
--- the declarations marked contain only declarations that are marked, and none contains itself
-pub record IsClear (ds : List TypeDecl) (rows : List (List Bool)) (marks : List Bool) : Type 0 where
-  pub same : length marks ≡ length ds
-  pub onward : (e : ℕ) (decl : TypeDecl) → is_set marks e ≡ true → slice_get ds e ≡ Some decl → All (IsSeen marks) (parts_by rows decl)
-  pub none : (e : ℕ) → is_set marks e ≡ true → IsEndless ds e → ⊥
+-- none of the declarations marked contains itself
+abbrev pub IsClear : List TypeDecl → List Bool → Type 0
+IsClear ds marks = (e : ℕ) → is_set marks e ≡ true → IsEndless ds e → ⊥
 
 -- how many places have no mark
 abbrev pub unset : List Bool → ℕ

@@ -35,7 +35,8 @@ impl From<NoMem> for DeclFault {
 
 /// Looks for a type that contains itself outside Box, where an argument of a declared type counts as
 /// far as the declaration has its parameter outside Box. `EndlessType` comes exactly where there is
-/// one, and names the first; `Memory` is want of memory.
+/// one, and names the first; `Memory` is want of memory. The time is linear in the declarations and
+/// the types in them.
 pub fn check_decls(alloc: Global, decls: &[TypeDecl]) -> Result<(), DeclFault>
     ensures { IsVerdict decls.now result }
 {
@@ -61,7 +62,7 @@ fn contains_itself(
     requires shape { spec.HasShape decls.now rows.now }
     requires sound { spec.AreSound decls.now rows.now }
     requires complete { (d : ℕ) → spec.IsComplete decls.now rows.now d }
-    requires clear { spec.IsClear decls.now rows.now clear.now }
+    requires clear { spec.IsClear decls.now clear.now }
     ensures { IfOk result (λ b. MatchBool b (IsEndless decls.now decl) (IsEndless decls.now decl → ⊥)) }
 {
     if is_set(clear, decl) {

@@ -3,16 +3,17 @@
 
 mod builtins;
 mod clear;
+mod components;
 mod copy;
 mod decl;
 mod endless;
 mod marks;
-mod order;
 mod parts;
 mod places;
 mod same;
 mod search;
 mod shape;
+mod spread;
 mod substitution;
 mod ty;
 

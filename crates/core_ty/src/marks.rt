@@ -6,8 +6,8 @@ ghost use Rattle.core_ty.specs.Marks as spec;
 ghost use Rattle.core_ty.specs.declared.parts.Part.TheVariants.{Parameter};
 
 use crate::TypeDecl;
-use crate::order::leaves_first;
 use crate::parts::{Part, is_set, parts_of};
+use crate::spread::spread;
 use aen_base::{List, NoMem, at};
 use std::alloc::Global;
 
@@ -18,23 +18,11 @@ pub(crate) fn marks(alloc: Global, decls: &[TypeDecl]) -> Result<List<List<bool>
     ensures sound { IfOk result (λ rows. spec.AreSound decls.now rows) }
     ensures complete { IfOk result (λ rows. (d : ℕ) → spec.IsComplete decls.now rows d) }
 {
-    let mut rows = first_marks(alloc, decls)?;
+    let mut rows = no_marks(alloc, decls)?;
+    spread(alloc, decls, &mut rows)?;
+    // none is left; this is the check that they are all
     while let Some((decl, number)) = next_unmarked(alloc, decls, rows.as_slice())? {
         mark(&mut rows, decl, number);
-    }
-    Ok(rows)
-}
-
-/// The marks that one walk over the declarations finds. Where no declarations stand in a circle
-/// these are all.
-fn first_marks(alloc: Global, decls: &[TypeDecl]) -> Result<List<List<bool>>, NoMem>
-    ensures { IfOk result (λ rows. spec.HasShape decls.now rows × spec.AreSound decls.now rows) }
-{
-    let full = equal_rows(alloc, decls, true)?;
-    let order = leaves_first(alloc, decls, full.as_slice())?;
-    let mut rows = equal_rows(alloc, decls, false)?;
-    for decl in order.as_slice() {
-        settle(alloc, decls, *decl, &mut rows)?;
     }
     Ok(rows)
 }
@@ -50,41 +38,18 @@ pub(crate) fn equal_row(alloc: Global, places: usize, mark: bool) -> Result<List
     Ok(row)
 }
 
-fn equal_rows(alloc: Global, decls: &[TypeDecl], mark: bool) -> Result<List<List<bool>>, NoMem>
-    ensures { IfOk result (λ rows. rows ≡ map (λ decl. replicate (length decl.params) mark) decls.now) }
+fn no_marks(alloc: Global, decls: &[TypeDecl]) -> Result<List<List<bool>>, NoMem>
+    ensures { IfOk result (λ rows. rows ≡ map (λ decl. replicate (length decl.params) false) decls.now) }
 {
     let mut rows = List::new(alloc);
     for decl in decls {
-        rows.push(equal_row(alloc, decl.params.len(), mark)?)?;
+        rows.push(equal_row(alloc, decl.params.len(), false)?)?;
     }
     Ok(rows)
 }
 
-/// Marks the type parameters that a declaration has outside Box by the marks.
-fn settle(
-    alloc: Global,
-    decls: &[TypeDecl],
-    decl: usize,
-    rows: &mut List<List<bool>>,
-) -> Result<(), NoMem>
-    requires shape { spec.HasShape decls.now rows.old }
-    requires sound { spec.AreSound decls.now rows.old }
-    ensures { OnOk result (spec.HasShape decls.now rows.new × spec.AreSound decls.now rows.new) }
-{
-    let Some(found) = at(decls, decl) else {
-        return Ok(());
-    };
-    let parts = parts_of(alloc, rows.as_slice(), found)?;
-    for part in parts.as_slice() {
-        if let Some(number) = unmarked_place(row_of(rows.as_slice(), decl), *part) {
-            mark(rows, decl, number);
-        }
-    }
-    Ok(())
-}
-
 /// The marks of a declared type.
-fn row_of(rows: &[List<bool>], decl: usize) -> &[bool]
+pub(crate) fn row_of(rows: &[List<bool>], decl: usize) -> &[bool]
     ensures { result.now ≡ spec.row_of rows.now decl }
 {
     match at(rows, decl) {
@@ -94,7 +59,7 @@ fn row_of(rows: &[List<bool>], decl: usize) -> &[bool]
 }
 
 /// Sets a mark.
-fn mark(rows: &mut List<List<bool>>, decl: usize, number: usize)
+pub(crate) fn mark(rows: &mut List<List<bool>>, decl: usize, number: usize)
     requires { number < length (spec.row_of rows.old decl) }
     ensures { rows.new ≡ slice_set rows.old decl (slice_set (spec.row_of rows.old decl) number true) }
 {
@@ -117,7 +82,7 @@ fn missing(row: &[bool], parts: &[Part]) -> Option<usize>
 }
 
 /// The place of a type parameter that has one in the row, but no mark there.
-fn unmarked_place(row: &[bool], part: Part) -> Option<usize>
+pub(crate) fn unmarked_place(row: &[bool], part: Part) -> Option<usize>
     ensures { MatchOption result (spec.IsMarked row.now part)
         (λ k. (k < length row.now) × (spec.is_set row.now k ≡ false) × (part ≡ Parameter k)) }
 {
