@@ -1,0 +1,16 @@
+pub mod Parser
+pub mod Single
+pub mod Environment
+pub mod Terms
+pub mod Types
+pub mod Many
+pub mod Calls
+pub mod Primitives
+pub mod Codes
+pub mod Tests
+pub mod Declarations
+pub mod Definitions
+pub mod Texts
+pub mod Finding
+pub mod Naming
+pub mod Laws

@@ -1,0 +1,12 @@
+//! Reads the texts of the printed language (docs/TEXT.md, "Reading").
+#![tactic(auto)]
+
+mod cursor;
+mod fault;
+mod frames;
+mod laws;
+mod spelled;
+mod words;
+
+pub(crate) use fault::ReadFault;
+pub use laws::texts_are_read_whole;
