@@ -14,3 +14,4 @@ pub mod Texts
 pub mod Finding
 pub mod Naming
 pub mod Laws
+pub mod Outlines

@@ -5,6 +5,7 @@ mod cursor;
 mod fault;
 mod frames;
 mod laws;
+mod outline;
 mod spelled;
 mod words;
 
