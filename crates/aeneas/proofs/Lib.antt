@@ -2,3 +2,4 @@ pub mod FuelLemmas
 pub mod Replies
 pub mod WordLemmas
 pub mod Forms
+pub mod DefinitionWords

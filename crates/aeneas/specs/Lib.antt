@@ -7,3 +7,5 @@ pub mod Reply
 pub mod Parsed
 pub mod Answer
 pub mod SourceFound
+pub mod DefinitionWord
+pub mod DefinitionParts

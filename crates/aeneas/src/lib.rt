@@ -2,6 +2,7 @@
 #![tactic(auto)]
 
 mod command;
+mod definition_word;
 mod fuel;
 mod reply;
 mod run_file;
