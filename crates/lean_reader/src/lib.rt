@@ -1,10 +1,12 @@
 //! Reads the texts of the printed language (docs/TEXT.md, "Reading").
 #![tactic(auto)]
 
+mod bare;
 mod cursor;
 mod fault;
 mod frames;
 mod laws;
+mod names;
 mod outline;
 mod spelled;
 mod words;
