@@ -2,13 +2,18 @@
 #![tactic(auto)]
 
 mod bare;
+mod beginnings;
+mod calls;
 mod cursor;
+mod digits;
 mod fault;
 mod frames;
 mod laws;
 mod names;
 mod outline;
+mod primitives;
 mod spelled;
+mod variables;
 mod words;
 
 pub(crate) use fault::ReadFault;
