@@ -1,5 +1,6 @@
 pub mod Standing
 pub mod Singles
+pub mod Bracketing
 pub mod Numbers
 pub mod Prefixes
 pub mod Spelling

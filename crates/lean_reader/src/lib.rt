@@ -1,9 +1,11 @@
 //! Reads the texts of the printed language (docs/TEXT.md, "Reading").
 #![tactic(auto)]
 
+mod atoms;
 mod bare;
 mod beginnings;
 mod calls;
+mod constructors;
 mod cursor;
 mod digits;
 mod fault;
