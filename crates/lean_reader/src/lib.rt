@@ -1,12 +1,16 @@
 //! Reads the texts of the printed language (docs/TEXT.md, "Reading").
 #![tactic(auto)]
 
+mod by_name;
 mod cursor;
 mod fault;
 mod frames;
+mod kinds;
 mod laws;
+mod named;
 mod outline;
 mod spelled;
+mod tables;
 mod words;
 
 pub(crate) use fault::ReadFault;
