@@ -27,3 +27,4 @@ pub mod Texts
 pub mod Finding
 pub mod Naming
 pub mod Placing
+pub mod Keys

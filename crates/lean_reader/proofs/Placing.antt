@@ -1,14 +1,14 @@
--- A table with one more name agrees with the list of names with one more name.
+-- Tables of the places of keys: a table with one more key agrees with the list with one more key.
 use Rattle.std.proofs.Common.{◌≡◌, ℕ, zero, suc, ◌+◌, ◌<◌, add-one, get_or, Bool, true, false, if◌then◌else◌, List, [], ◌∷◌, ◌++◌, length, map, take, Option, Some, None, refl, sym, ap, ◌∙◌, arith}
 use Rattle.std.specs.Prelude.{bytes_eq, slice_get}
 use Rattle.std.specs.Option.{option_map, option_or, option_and_then}
-use Rattle.lean_reader.specs.Finding.{find}
-use Rattle.lean_reader.specs.Tests.{place_of}
 use Rattle.std.proofs.lemmas.List.{map-append, length-map, length-take-le}
-use Rattle.lean_reader.proofs.Singles.{same_bytes}
-
-abbrev pub entry : List ℕ → ℕ → List ℕ → Option ℕ
-entry x n w = if bytes_eq x w then Some n else None
+use Rattle.lean_reader.specs.Finding.{find}
+use Rattle.lean_reader.specs.Kinds.{head_of_key, head_key}
+use Rattle.lean_reader.specs.Places.{place_by}
+use Rattle.lean_reader.specs.Tests.{place_of}
+use Rattle.lean_reader.specs.declared.kinds.KindKey.{KindKey}
+use Rattle.lean_reader.specs.declared.outline.DefinitionHead.{DefinitionHead}
 
 entry_later : (b : Bool) (n : ℕ) → option_map (λ k. suc k) (if b then Some n else None) ≡ (if b then Some (suc n) else None)
 entry_later true n = refl
@@ -18,58 +18,46 @@ or_later : (o p : Option ℕ) → option_map (λ k. suc k) (option_or o p) ≡ o
 or_later None p = refl
 or_later (Some k) p = refl
 
-place_by : (b : Bool) (o p q : Option ℕ) → o ≡ option_or p q → (if b then Some 0 else o) ≡ option_or (if b then Some 0 else p) q
-place_by true o p q h = refl
-place_by false o p q h = h
+or_by : (b : Bool) (o p q : Option ℕ) → o ≡ option_or p q → (if b then Some 0 else o) ≡ option_or (if b then Some 0 else p) q
+or_by true o p q h = refl
+or_by false o p q h = h
 
-pub place_more : (xs : List (List ℕ)) (x w : List ℕ) → place_of (xs ++ x ∷ []) w ≡ option_or (place_of xs w) (entry x (length xs) w)
-place_more [] x w = refl
-place_more (y ∷ xs) x w =
-    place_by (bytes_eq y w) (option_map (λ k. suc k) (place_of (xs ++ x ∷ []) w)) (option_map (λ k. suc k) (place_of xs w)) (entry x (suc (length xs)) w)
-    (ap (option_map (λ k. suc k)) (place_more xs x w) ∙ or_later (place_of xs w) (entry x (length xs) w) ∙ ap (option_or (option_map (λ k. suc k) (place_of xs w))) (entry_later (bytes_eq x w) (length xs)))
-
--- a name that has no place yet
-fresh_by : (b : Bool) (n : ℕ) (o : Option ℕ) → (b ≡ true → o ≡ None) → (if b then Some n else o) ≡ option_or o (if b then Some n else None)
-fresh_by true n None h = refl
-fresh_by true n (Some k) h = let e = h refl in absurd cc
-fresh_by false n None h = refl
-fresh_by false n (Some k) h = refl
-
-pub fresh : (old : List ℕ → Option ℕ) (x w : List ℕ) (n : ℕ) → old x ≡ None → (if bytes_eq x w then Some n else old w) ≡ option_or (old w) (entry x n w)
-fresh old x w n h = fresh_by (bytes_eq x w) n (old w) (λ e. ap old (sym (same_bytes x w e)) ∙ h)
-
--- and one that has
-kept_by : (b : Bool) (n : ℕ) (o : Option ℕ) → (b ≡ true → o ≡ None → ⊥) → o ≡ option_or o (if b then Some n else None)
-kept_by true n None h = absurd (h refl refl)
-kept_by true n (Some k) h = refl
-kept_by false n None h = refl
-kept_by false n (Some k) h = refl
-
-pub kept : (old : List ℕ → Option ℕ) (x w : List ℕ) (n : ℕ) → (old x ≡ None → ⊥) → old w ≡ option_or (old w) (entry x n w)
-kept old x w n h = kept_by (bytes_eq x w) n (old w) (λ e q. h (ap old (same_bytes x w e) ∙ q))
-
--- the next of these things
-abbrev pub Agreeing : {A : Type 0} (f : A → List ℕ) → List A → (List ℕ → Option ℕ) → Type 0
-Agreeing f xs table = (w : List ℕ) → table w ≡ place_of (map f xs) w
-
-taken : {A : Type 0} (xs : List A) (k : ℕ) (x : A) → k < length xs → x ≡ get_or xs k x → take (k + 1) xs ≡ take k xs ++ x ∷ []
-taken xs k x l h = rw add-one (next xs k x l h)
+taken : {A : Type 0} (xs : List A) (k : ℕ) (x d : A) → k < length xs → x ≡ get_or xs k d → take (k + 1) xs ≡ take k xs ++ x ∷ []
+taken xs k x d l h = rw add-one (next xs k x d l h)
   where
-    next : {A : Type 0} (xs : List A) (k : ℕ) (x : A) → k < length xs → x ≡ get_or xs k x → take (suc k) xs ≡ take k xs ++ x ∷ []
-    next [] k x l h = absurd (omega arith)
-    next (y ∷ ys) zero x l h = ap (λ z. z ∷ []) (sym h)
-    next (y ∷ ys) (suc k) x l h = ap (λ zs. y ∷ zs) (next ys k x (omega arith) h)
+    next : {A : Type 0} (xs : List A) (k : ℕ) (x d : A) → k < length xs → x ≡ get_or xs k d → take (suc k) xs ≡ take k xs ++ x ∷ []
+    next [] k x d l h = absurd (omega arith)
+    next (y ∷ ys) zero x d l h = ap (λ z. z ∷ []) (sym h)
+    next (y ∷ ys) (suc k) x d l h = ap (λ zs. y ∷ zs) (next ys k x d (omega arith) h)
 
-pub entered : {A : Type 0} (f : A → List ℕ) (xs : List A) (k : ℕ) (x : A) (name : List ℕ) (n : ℕ) (old new : List ℕ → Option ℕ) →
-    k < length xs → x ≡ get_or xs k x → name ≡ f x → n ≡ k →
-    ((w : List ℕ) → new w ≡ option_or (old w) (entry name n w)) → Agreeing f (take k xs) old → Agreeing f (take (k + 1) xs) new
-entered f xs k x name n old new l at e m step before w =
-    let long : length (map f (take k xs)) ≡ k = length-map (take k xs) f ∙ length-take-le k xs (omega arith) in
-    let split : map f (take (k + 1) xs) ≡ map f (take k xs) ++ f x ∷ [] = ap (map f) (taken xs k x l at) ∙ map-append f (take k xs) (x ∷ []) in
-    step w ∙ (λ i. option_or (before w i) (entry (e i) (m i) w)) ∙ (λ i. option_or (place_of (map f (take k xs)) w) (entry (f x) (sym long i) w))
-    ∙ sym (place_more (map f (take k xs)) (f x) w) ∙ ap (λ ns. place_of ns w) (sym split)
+module _ {K : Type 0} (eq : K → K → Bool) where
+  abbrev pub entry : K → ℕ → K → Option ℕ
+  entry x n w = if eq x w then Some n else None
 
--- the first thing of a name stands in the name's place
+  place_more : (xs : List K) (x w : K) → place_by eq (xs ++ x ∷ []) w ≡ option_or (place_by eq xs w) (entry x (length xs) w)
+  place_more [] x w = refl
+  place_more (y ∷ xs) x w =
+      or_by (eq y w) (option_map (λ k. suc k) (place_by eq (xs ++ x ∷ []) w)) (option_map (λ k. suc k) (place_by eq xs w)) (entry x (suc (length xs)) w)
+      (ap (option_map (λ k. suc k)) (place_more xs x w) ∙ or_later (place_by eq xs w) (entry x (length xs) w) ∙ ap (option_or (option_map (λ k. suc k) (place_by eq xs w))) (entry_later (eq x w) (length xs)))
+
+  abbrev pub Agreeing : {A : Type 0} (f : A → K) → List A → (K → Option ℕ) → Type 0
+  Agreeing f xs table = (w : K) → table w ≡ place_by eq (map f xs) w
+
+  -- the next thing of a list
+  pub entered : {A : Type 0} (f : A → K) (xs : List A) (k : ℕ) (x d : A) (name : K) (n : ℕ) (old new : K → Option ℕ) →
+      k < length xs → x ≡ get_or xs k d → name ≡ f x → n ≡ k →
+      ((w : K) → new w ≡ option_or (old w) (entry name n w)) → Agreeing f (take k xs) old → Agreeing f (take (k + 1) xs) new
+  entered f xs k x d name n old new l at e m step before w =
+      let long : length (map f (take k xs)) ≡ k = length-map (take k xs) f ∙ length-take-le k xs (omega arith) in
+      let split : map f (take (k + 1) xs) ≡ map f (take k xs) ++ f x ∷ [] = ap (map f) (taken xs k x d l at) ∙ map-append f (take k xs) (x ∷ []) in
+      step w ∙ (λ i. option_or (before w i) (entry (e i) (m i) w)) ∙ (λ i. option_or (place_by eq (map f (take k xs)) w) (entry (f x) (sym long i) w))
+      ∙ sym (place_more (map f (take k xs)) (f x) w) ∙ ap (λ ns. place_by eq ns w) (sym split)
+
+pub place_of_names : (ns : List (List ℕ)) (a : List ℕ) → place_by bytes_eq ns a ≡ place_of ns a
+place_of_names [] a = refl
+place_of_names (n ∷ ns) a = ap (λ o. if bytes_eq n a then Some 0 else option_map (λ k. suc k) o) (place_of_names ns a)
+
+-- the first thing of a key stands in the key's place
 module _ {A : Type 0} where
   abbrev pub with_place : ℕ → A → ℕ × A
   with_place k x = (k, x)
@@ -93,7 +81,7 @@ module _ {A : Type 0} where
   found_by true x xs o p h = refl
   found_by false x xs o p h = ap (option_map later) h ∙ item_later o x xs
 
-  pub found_at : (f : A → List ℕ) (xs : List A) (a : List ℕ) → find f xs a ≡ item_at xs (place_of (map f xs) a)
+  found_at : (f : A → List ℕ) (xs : List A) (a : List ℕ) → find f xs a ≡ item_at xs (place_of (map f xs) a)
   found_at f [] a = refl
   found_at f (x ∷ xs) a = found_by (bytes_eq (f x) a) x xs (place_of (map f xs) a) (find f xs a) (found_at f xs a)
 
@@ -103,3 +91,28 @@ module _ {A : Type 0} where
   pub found_some : (f : A → List ℕ) (xs : List A) (a : List ℕ) (o : Option ℕ) (k : ℕ) (r : Option A) → o ≡ place_of (map f xs) a → o ≡ Some k → r ≡ slice_get xs k →
       find f xs a ≡ option_map (with_place k) r
   found_some f xs a o k r h e q = found_at f xs a ∙ ap (item_at xs) (sym h ∙ e) ∙ ap (option_map (with_place k)) (sym q)
+
+-- and so does the first definition of a kind
+module _ (eq : KindKey → KindKey → Bool) where
+  abbrev heading : ℕ × DefinitionHead → ℕ × ℕ
+  heading p = (p.0, p.1.parameters)
+
+  heading_later : (o : Option (ℕ × DefinitionHead)) → option_map (λ (p : ℕ × ℕ). (suc p.0, p.1)) (option_map heading o) ≡ option_map heading (option_map later o)
+  heading_later None = refl
+  heading_later (Some p) = refl
+
+  head_by : (b : Bool) (x : DefinitionHead) (xs : List DefinitionHead) (o : Option ℕ) (p : Option (ℕ × ℕ)) → p ≡ option_map heading (item_at xs o) →
+      (if b then Some (0, x.parameters) else option_map (λ (p : ℕ × ℕ). (suc p.0, p.1)) p) ≡ option_map heading (item_at (x ∷ xs) (if b then Some 0 else option_map (λ k. suc k) o))
+  head_by true x xs o p h = refl
+  head_by false x xs o p h = ap (option_map (λ (p : ℕ × ℕ). (suc p.0, p.1))) h ∙ heading_later (item_at xs o) ∙ ap (option_map heading) (item_later o x xs)
+
+  head_at : (xs : List DefinitionHead) (k : KindKey) → head_of_key eq xs k ≡ option_map heading (item_at xs (place_by eq (map head_key xs) k))
+  head_at [] k = refl
+  head_at (x ∷ xs) k = head_by (eq (head_key x) k) x xs (place_by eq (map head_key xs) k) (head_of_key eq xs k) (head_at xs k)
+
+  pub head_none : (xs : List DefinitionHead) (a : KindKey) (o : Option ℕ) → o ≡ place_by eq (map head_key xs) a → o ≡ None → head_of_key eq xs a ≡ None
+  head_none xs a o h e = head_at xs a ∙ ap (λ o. option_map heading (item_at xs o)) (sym h ∙ e)
+
+  pub head_some : (xs : List DefinitionHead) (a : KindKey) (o : Option ℕ) (k : ℕ) (r : Option DefinitionHead) → o ≡ place_by eq (map head_key xs) a → o ≡ Some k → r ≡ slice_get xs k →
+      head_of_key eq xs a ≡ option_map heading (option_map (with_place k) r)
+  head_some xs a o k r h e q = head_at xs a ∙ ap (λ o. option_map heading (item_at xs o)) (sym h ∙ e) ∙ ap (λ o. option_map heading (option_map (with_place k) o)) (sym q)

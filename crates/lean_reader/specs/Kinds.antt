@@ -3,8 +3,8 @@ use Rattle.std.specs.Prelude.{ℕ, suc, Bool, if◌then◌else◌, List, [], ◌
 use Rattle.std.specs.Option.{option_map}
 use Rattle.pure_ast.specs.declared.def.DefKind.{DefKind}
 use Rattle.pure_ast.specs.declared.def.DefKind.TheVariants as K
-use Rattle.lean_reader.specs.declared.outline.DefinitionHead.{DefinitionHead}
 use Rattle.lean_reader.specs.declared.kinds.KindKey.{KindKey}
+use Rattle.lean_reader.specs.declared.outline.DefinitionHead.{DefinitionHead}
 
 abbrev pub key : ℕ → Option ℕ → Option ℕ → KindKey
 key f t b = record { function = f; turn = t; back = b }
@@ -15,10 +15,10 @@ key_of (K.Back f r) = key f.0 None (Some r.0)
 key_of (K.Loop f k) = key f.0 (Some k.0) None
 key_of (K.LoopBack f k c) = key f.0 (Some k.0) (Some c)
 
--- the place of a key in a list, by a test of equality
-abbrev pub place_by : (KindKey → KindKey → Bool) → List KindKey → KindKey → Option ℕ
-place_by eq [] k = None
-place_by eq (x ∷ xs) k = if eq x k then Some 0 else option_map (λ n. suc n) (place_by eq xs k)
+abbrev pub head_key : DefinitionHead → KindKey
+head_key x = key_of x.kind
 
-abbrev pub keys_of : List DefinitionHead → List KindKey
-keys_of xs = map (λ (x : DefinitionHead). key_of x.kind) xs
+-- the first definition of a kind by its key, with its number of parameters
+abbrev pub head_of_key : (KindKey → KindKey → Bool) → List DefinitionHead → KindKey → Option (ℕ × ℕ)
+head_of_key eq [] k = None
+head_of_key eq (x ∷ xs) k = if eq (head_key x) k then Some (0, x.parameters) else option_map (λ p. (suc p.0, p.1)) (head_of_key eq xs k)

@@ -23,7 +23,7 @@ impl<T: Named> Model for ByName<T> {
     ghost use Rattle.std.specs.Prelude.{◌≡◌, List, ℕ, map, bytes_eq};
     ghost use Rattle.std.specs.Coded.{coded_list};
     ghost use Rattle.indexmap.specs.IndexMap.{get};
-    ghost use Rattle.lean_reader.specs.Tests.{place_of};
+    ghost use Rattle.lean_reader.specs.Places.{place_by};
 
     ghost Value = { List T };
 
@@ -31,7 +31,7 @@ impl<T: Named> Model for ByName<T> {
 
     ghost view = { λ s. s.items };
 
-    ghost invariant = { λ s. (w : List ℕ) → get bytes_eq s.table w ≡ place_of (map T.name_of s.items) w };
+    ghost invariant = { λ s. (w : List ℕ) → get bytes_eq s.table w ≡ place_by bytes_eq (map T.name_of s.items) w };
 }
 
 impl<T: Named> ByName<T> {

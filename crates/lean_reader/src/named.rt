@@ -3,7 +3,7 @@
 ghost use Rattle.std.specs.Prelude.{◌≡◌, ℕ, List, Some, None, if◌then◌else◌, map, bytes_eq, IfOk, OnOk};
 ghost use Rattle.std.specs.Option.{option_or};
 ghost use Rattle.indexmap.specs.IndexMap.{get};
-ghost use Rattle.lean_reader.specs.Tests.{place_of};
+ghost use Rattle.lean_reader.specs.Places.{place_by};
 
 use crate::outline::{TypeHead, VariantHead};
 use aen_base::{Name, NoMem};
@@ -49,7 +49,7 @@ fn enter(alloc: Global, table: &mut IndexMap<Name, u32>, name: &Name, place: u32
 
 /// The place of the first of each name. The only error is want of memory.
 pub(crate) fn places_of<T: Named>(alloc: Global, items: &[T]) -> Result<IndexMap<Name, u32>, NoMem>
-    ensures { IfOk result (λ m. (w : List ℕ) → get bytes_eq m w ≡ place_of (map T.name_of items.now) w) }
+    ensures { IfOk result (λ m. (w : List ℕ) → get bytes_eq m w ≡ place_by bytes_eq (map T.name_of items.now) w) }
 {
     let mut table = IndexMap::new(alloc);
     for place in 0..items.len() {

@@ -5,8 +5,9 @@ ghost use Rattle.lean_reader.specs.Outlines as outlines;
 ghost use Rattle.lean_reader.specs.Tests as tests;
 
 use crate::by_name::ByName;
+use crate::kinds::{ByKind, KindKey};
 use crate::named::Named;
-use crate::outline::{DefinitionHead, Outline, TypeHead, VariantHead};
+use crate::outline::{Outline, TypeHead, VariantHead};
 use aen_base::{List, Name, NoMem, TypeId};
 use pure_ast::CtorId;
 use std::alloc::Global;
@@ -71,7 +72,7 @@ impl Named for TypeTable {
 pub(crate) struct Tables {
     types: ByName<TypeTable>,
     functions: ByName<Name>,
-    definitions: List<DefinitionHead>,
+    definitions: ByKind,
 }
 
 impl Model for Tables {
@@ -111,6 +112,7 @@ impl Tables {
         let types = type_tables(alloc, types)?;
         let types = ByName::new(alloc, types)?;
         let functions = ByName::new(alloc, functions)?;
+        let definitions = ByKind::new(alloc, definitions)?;
         Ok(Tables {
             types,
             functions,
@@ -139,5 +141,14 @@ impl Tables {
         ensures { result ≡ tests.place_of self.now.functions name.now }
     {
         self.functions.place_of(name)
+    }
+
+    /// The first definition of this function, loop, and region or class, with its number of parameters.
+    #[tactic(auto, using(crate::proofs::Keys::no_function))]
+    pub(crate) fn definition_of(&self, function: &Name, turn: Option<u32>, back: Option<u32>) -> Option<(u32, usize)>
+        ensures { result ≡ outlines.definition_of self.now function.now turn back }
+    {
+        let function = self.function_of(function)?;
+        self.definitions.find(KindKey { function, turn, back })
     }
 }
