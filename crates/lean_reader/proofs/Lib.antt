@@ -29,3 +29,5 @@ pub mod Definitions
 pub mod Texts
 pub mod Finding
 pub mod Naming
+pub mod Placing
+pub mod Keys

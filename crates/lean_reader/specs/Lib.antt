@@ -18,3 +18,5 @@ pub mod Finding
 pub mod Naming
 pub mod Laws
 pub mod Outlines
+pub mod Places
+pub mod Kinds
