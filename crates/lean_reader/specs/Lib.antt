@@ -1,10 +1,13 @@
 pub mod Parser
+pub mod Digits
 pub mod Single
 pub mod Environment
 pub mod Terms
+pub mod TermTurns
 pub mod Types
 pub mod Many
 pub mod Calls
+pub mod CallNames
 pub mod Primitives
 pub mod Codes
 pub mod Tests
@@ -15,3 +18,5 @@ pub mod Finding
 pub mod Naming
 pub mod Laws
 pub mod Outlines
+pub mod Places
+pub mod Kinds
