@@ -34,7 +34,7 @@ impl<'a> Reader<'a> {
 
 /// The name that a lexeme is.
 #[tactic(auto, unfolding(crate::specs::Single::id_of))]
-fn name_of(kind: &LexemeKind) -> Option<&Name>
+pub(crate) fn name_of(kind: &LexemeKind) -> Option<&Name>
     ensures { option_copied result ≡ spec.id_of kind.now }
 {
     match kind {
