@@ -9,8 +9,10 @@ mod kinds;
 mod laws;
 mod named;
 mod outline;
+mod places;
 mod spelled;
 mod tables;
+mod tests;
 mod words;
 
 pub(crate) use fault::ReadFault;
