@@ -2,10 +2,10 @@
 
 use crate::ReadFault;
 use crate::cursor::Reader;
-use crate::primitives::arity;
 use crate::rule_cursor::Checker;
 use crate::rule_terms::Named;
-use aen_base::{Name, NoMem};
+use aen_base::{Builtin, Name, NoMem};
+use pure_ast::{BoolOp, Primitive};
 use std::alloc::Global;
 use text_meaning::Mark;
 
@@ -188,5 +188,24 @@ impl<'a> Checker<'a> {
             self.code_part(alloc)?;
         }
         Ok(())
+    }
+}
+
+/// How many parts a primitive has.
+fn arity(primitive: &Primitive) -> usize {
+    match primitive {
+        Primitive::Arith(_, _) => 2,
+        Primitive::Compare(_, _) => 2,
+        Primitive::Bools(op) => {
+            if *op == BoolOp::Not {
+                1
+            } else {
+                2
+            }
+        }
+        Primitive::Forward(Builtin::BoxNew) => 1,
+        Primitive::Forward(_) => 2,
+        Primitive::Back(_, _) => 2,
+        _ => 1,
     }
 }
