@@ -4,8 +4,10 @@
 mod atoms;
 mod bare;
 mod beginnings;
+mod bindings;
 mod by_name;
 mod calls;
+mod codes;
 mod computations;
 mod constructors;
 mod cursor;
