@@ -33,3 +33,5 @@ pub mod Finding
 pub mod Naming
 pub mod Placing
 pub mod Keys
+pub mod Apart
+pub mod Identifying

@@ -25,6 +25,10 @@ mod repetitions;
 mod spelled;
 mod tables;
 mod variables;
+mod places;
+mod spelled;
+mod tables;
+mod tests;
 mod words;
 
 pub(crate) use fault::ReadFault;
