@@ -20,15 +20,13 @@ mod named;
 mod names;
 mod outline;
 mod patterns;
+mod places;
 mod primitives;
 mod repetitions;
 mod spelled;
 mod tables;
-mod variables;
-mod places;
-mod spelled;
-mod tables;
 mod tests;
+mod variables;
 mod words;
 
 pub(crate) use fault::ReadFault;
