@@ -26,3 +26,7 @@ pub mod Definitions
 pub mod Texts
 pub mod Finding
 pub mod Naming
+pub mod Heading
+pub mod TypeTurns
+pub mod Turns
+pub mod Numbering

@@ -3,10 +3,16 @@
 
 mod cursor;
 mod fault;
+mod fields;
 mod frames;
 mod laws;
+mod numerals;
 mod outline;
 mod spelled;
+mod type_parameters;
+mod type_starts;
+mod type_steps;
+mod types;
 mod words;
 
 pub(crate) use fault::ReadFault;
