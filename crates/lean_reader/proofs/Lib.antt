@@ -30,3 +30,5 @@ pub mod Heading
 pub mod TypeTurns
 pub mod Turns
 pub mod Numbering
+pub mod Placing
+pub mod Keys

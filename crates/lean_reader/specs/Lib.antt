@@ -17,3 +17,5 @@ pub mod Laws
 pub mod Outlines
 pub mod Numerals
 pub mod TypeTurns
+pub mod Places
+pub mod Kinds
