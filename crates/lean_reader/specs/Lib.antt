@@ -1,10 +1,12 @@
 pub mod Parser
+pub mod Digits
 pub mod Single
 pub mod Environment
 pub mod Terms
 pub mod Types
 pub mod Many
 pub mod Calls
+pub mod CallNames
 pub mod Primitives
 pub mod Codes
 pub mod Tests

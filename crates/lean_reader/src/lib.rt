@@ -2,14 +2,20 @@
 #![tactic(auto)]
 
 mod by_name;
+mod bare;
+mod beginnings;
+mod calls;
 mod cursor;
+mod digits;
 mod fault;
 mod fields;
 mod frames;
 mod kinds;
 mod laws;
 mod numerals;
+mod names;
 mod outline;
+mod primitives;
 mod spelled;
 mod type_parameters;
 mod type_starts;
@@ -19,6 +25,7 @@ mod named;
 mod outline;
 mod spelled;
 mod tables;
+mod variables;
 mod words;
 
 pub(crate) use fault::ReadFault;
