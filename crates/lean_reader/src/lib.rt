@@ -1,31 +1,38 @@
 //! Reads the texts of the printed language (docs/TEXT.md, "Reading").
 #![tactic(auto)]
 
-mod by_name;
 mod bare;
 mod beginnings;
+mod by_name;
 mod calls;
+mod codes;
 mod cursor;
+mod declarations;
+mod definition;
 mod digits;
 mod fault;
 mod fields;
 mod frames;
+mod fuel;
 mod kinds;
 mod laws;
-mod numerals;
+mod named;
 mod names;
+mod numerals;
 mod outline;
+mod parameters;
+mod places;
 mod primitives;
 mod spelled;
+mod tables;
+mod tests;
 mod type_parameters;
 mod type_starts;
 mod type_steps;
 mod types;
-mod named;
-mod outline;
-mod spelled;
-mod tables;
 mod variables;
+mod variant;
+mod whole;
 mod words;
 
 pub(crate) use fault::ReadFault;

@@ -1,4 +1,4 @@
-use Rattle.std.proofs.Common.{◌≡◌, ap, map, sym, ◌∙◌, Option, Some, None, slice_get}
+use Rattle.std.proofs.Common.{◌≡◌, ap, map, sym, ◌∙◌, Some, None, slice_get}
 use Rattle.lean_reader.specs.Kinds.{head_key}
 use Rattle.lean_reader.specs.Places.{place_by}
 use Rattle.lean_reader.specs.contracts.kinds.KindKeyPartialEq.TheImpl as key
