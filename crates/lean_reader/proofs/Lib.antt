@@ -34,3 +34,5 @@ pub mod Turns
 pub mod Numbering
 pub mod Placing
 pub mod Keys
+pub mod Apart
+pub mod Identifying

@@ -33,6 +33,10 @@ mod types;
 mod variables;
 mod variant;
 mod whole;
+mod places;
+mod spelled;
+mod tables;
+mod tests;
 mod words;
 
 pub(crate) use fault::ReadFault;
