@@ -3,6 +3,7 @@ pub mod Digits
 pub mod Single
 pub mod Environment
 pub mod Terms
+pub mod TermTurns
 pub mod Types
 pub mod Many
 pub mod Calls

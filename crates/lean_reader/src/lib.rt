@@ -1,11 +1,14 @@
 //! Reads the texts of the printed language (docs/TEXT.md, "Reading").
 #![tactic(auto)]
 
+mod atoms;
 mod bare;
 mod beginnings;
 mod by_name;
 mod calls;
 mod codes;
+mod computations;
+mod constructors;
 mod cursor;
 mod declarations;
 mod definition;
@@ -22,7 +25,10 @@ mod numerals;
 mod outline;
 mod parameters;
 mod places;
+mod outline;
+mod patterns;
 mod primitives;
+mod repetitions;
 mod spelled;
 mod tables;
 mod tests;
@@ -37,6 +43,7 @@ mod places;
 mod spelled;
 mod tables;
 mod tests;
+mod variables;
 mod words;
 
 pub(crate) use fault::ReadFault;
