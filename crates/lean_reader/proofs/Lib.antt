@@ -31,6 +31,10 @@ pub mod Definitions
 pub mod Texts
 pub mod Finding
 pub mod Naming
+pub mod Heading
+pub mod TypeTurns
+pub mod Turns
+pub mod Numbering
 pub mod Placing
 pub mod Keys
 pub mod Apart

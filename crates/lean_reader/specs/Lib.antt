@@ -19,5 +19,7 @@ pub mod Finding
 pub mod Naming
 pub mod Laws
 pub mod Outlines
+pub mod Numerals
+pub mod TypeTurns
 pub mod Places
 pub mod Kinds
