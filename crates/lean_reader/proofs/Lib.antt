@@ -1,6 +1,9 @@
 pub mod Standing
 pub mod Singles
+pub mod Bracketing
 pub mod Numbers
+pub mod Prefixes
+pub mod Spelling
 pub mod Heads
 pub mod Sequences
 pub mod Agreement
