@@ -53,6 +53,13 @@ module _ {K : Type 0} (eq : K → K → Bool) where
       step w ∙ (λ i. option_or (before w i) (entry (e i) (m i) w)) ∙ (λ i. option_or (place_by eq (map f (take k xs)) w) (entry (f x) (sym long i) w))
       ∙ sym (place_more (map f (take k xs)) (f x) w) ∙ ap (λ ns. place_by eq ns w) (sym split)
 
+  -- one more thing at the end
+  pub added : {A : Type 0} (f : A → K) (xs ys : List A) (x : A) (name : K) (n : ℕ) (old new : K → Option ℕ) → name ≡ f x → n ≡ length xs → ys ≡ xs ++ x ∷ [] →
+      ((w : K) → new w ≡ option_or (old w) (entry name n w)) → Agreeing f xs old → Agreeing f ys new
+  added f xs ys x name n old new e m q step before w =
+      step w ∙ (λ i. option_or (before w i) (entry (e i) (m i) w)) ∙ (λ i. option_or (place_by eq (map f xs) w) (entry (f x) (sym (length-map xs f) i) w))
+      ∙ sym (place_more (map f xs) (f x) w) ∙ ap (λ ns. place_by eq ns w) (sym (map-append f xs (x ∷ [])) ∙ ap (map f) (sym q))
+
 pub place_of_names : (ns : List (List ℕ)) (a : List ℕ) → place_by bytes_eq ns a ≡ place_of ns a
 place_of_names [] a = refl
 place_of_names (n ∷ ns) a = ap (λ o. if bytes_eq n a then Some 0 else option_map (λ k. suc k) o) (place_of_names ns a)

@@ -23,3 +23,5 @@ pub mod Numerals
 pub mod TypeTurns
 pub mod Places
 pub mod Kinds
+pub mod Signs
+pub mod Outlining

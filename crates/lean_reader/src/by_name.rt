@@ -1,11 +1,11 @@
 //! Lists of things that are found by their names.
 
-ghost use Rattle.std.specs.Prelude.{◌≡◌, map, IfOk};
+ghost use Rattle.std.specs.Prelude.{◌≡◌, [], ◌∷◌, ◌++◌, map, IfOk};
 ghost use Rattle.std.specs.Option.{option_map};
 ghost use Rattle.lean_reader.specs.Finding as finding;
 ghost use Rattle.lean_reader.specs.Tests as tests;
 
-use crate::named::{Named, places_of};
+use crate::named::{Named, enter, places_of};
 use aen_base::{List, Name, NoMem, at};
 use indexmap::IndexMap;
 use std::alloc::Global;
@@ -66,5 +66,34 @@ impl<T: Named> ByName<T> {
         let place = self.place_of(name)?;
         let item = at(self.items.as_slice(), place as usize)?;
         Some((place, item))
+    }
+
+    /// The list without its table.
+    pub(crate) fn into_items(self) -> List<T>
+        ensures { result ≡ self }
+    {
+        let ByName {
+            items,
+            table: _table,
+        } = self;
+        items
+    }
+}
+
+impl<T: Named + Drop> ByName<T> {
+    /// The list with one more item. The only error is want of memory.
+    pub(crate) fn with(self, alloc: Global, item: T) -> Result<ByName<T>, NoMem>
+        ensures { IfOk result (λ s. s ≡ self ++ item ∷ []) }
+    {
+        let ByName {
+            mut items,
+            mut table,
+        } = self;
+        let Ok(place) = u32::try_from(items.len()) else {
+            return Err(NoMem);
+        };
+        enter(alloc, &mut table, item.name(), place)?;
+        items.push(item)?;
+        Ok(ByName { items, table })
     }
 }

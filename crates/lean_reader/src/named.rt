@@ -38,7 +38,7 @@ impl Named for VariantHead {
 }
 
 /// Gives a name its place, where it has none yet.
-fn enter(
+pub(crate) fn enter(
     alloc: Global,
     table: &mut IndexMap<Name, u32>,
     name: &Name,
