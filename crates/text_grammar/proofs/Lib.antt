@@ -1,0 +1,4 @@
+pub mod Sound
+pub mod Apart
+pub mod Follows
+pub mod Complete
