@@ -1,12 +1,10 @@
 -- Where the symbols derive a lexeme and what comes after it, the step takes that lexeme: the choice of
 -- a production is forced, since what may come after each part is known.
 use Rattle.std.proofs.Common.{◌≡◌, refl, sym, ap, ◌∙◌, subst, inl, inr, ◌⊎◌, Bool, true, false, List, [], ◌∷◌, ◌++◌, Option, Some, None}
-use Rattle.std.specs.Prelude.{if◌then◌else◌, ◌&&◌, ◌||◌}
-use Rattle.std.specs.List.{list_any, list_all}
-use denote.Enum.Bare.{sameb, same_true}
+use Rattle.std.specs.Prelude.{if◌then◌else◌, ◌&&◌}
+use Rattle.std.specs.List.{list_all}
 use Rattle.text_tokens.specs.declared.lexeme.Lexeme.{Lexeme}
 use Rattle.text_tokens.specs.declared.lexeme.LexemeKind.{LexemeKind}
-use Rattle.text_grammar.specs.contracts.symbol.Terminal.{the_type}
 use Rattle.text_grammar.specs.declared.symbol.Symbol.{Symbol}
 use Rattle.text_grammar.specs.declared.symbol.Symbol.TheVariants as S
 use Rattle.text_grammar.specs.declared.symbol.Nonterminal.{Nonterminal}
@@ -16,90 +14,143 @@ use Rattle.text_grammar.specs.Derivations.{Tokens, IsOneOf, Derives, nothing, to
 use Rattle.text_grammar.specs.Grammar.{productions}
 use Rattle.text_grammar.specs.Tests.{passes}
 use Rattle.text_grammar.proofs.Apart.{apart, apart_right, left, right}
-use Rattle.text_grammar.proofs.Follows.{heads, firsts, follow, among, sits, begin_with_tokens, all_apart, each_apart, sit, ends_apart, sitting, begun, different, ended}
-use Rattle.text_grammar.proofs.Sound.{Begun, chosen_sound}
+use Rattle.text_grammar.proofs.Follows.{heads, firsts, follow, begin_with_tokens, all_apart, each_apart, ends_apart, begun, different, ended}
+use Rattle.text_grammar.proofs.Sitting.{Sits, of_left, of_right, all_of}
 
-abbrev pub Within : List Terminal → List Terminal → Type 0
-Within ts us = (t : Terminal) → IsOneOf t ts → IsOneOf t us
+-- what stands first
+pub record First (t : Terminal) (rest : List Symbol) (l : Lexeme) (ls : Tokens) : Type 0 where
+  pub good : passes t l.kind ≡ true
+  pub after : Derives rest ls
 
--- what comes after each part is among the tokens that may come there
-abbrev pub Sits : List Symbol → Type 0
-Sits [] = Unit {0}
-Sits (S.Token t ∷ rest) = Sits rest
-Sits (S.Part n ∷ rest) = Within (firsts rest []) (follow n) × Sits rest
+first : (t : Terminal) (rest : List Symbol) (l : Lexeme) (ls : Tokens) → Derives (S.Token t ∷ rest) (l ∷ ls) → First t rest l ls
+first t rest l ls (token h d) = record { good = h; after = d }
 
--- membership
-pub of_left : {A : Type 0} (x : A) (xs ys : List A) → IsOneOf x xs → IsOneOf x (xs ++ ys)
-of_left x [] ys h = absurd h
-of_left x (z ∷ xs) ys (inl e) = inl e
-of_left x (z ∷ xs) ys (inr h) = inr (of_left x xs ys h)
+no_token : (t : Terminal) (rest : List Symbol) → Derives (S.Token t ∷ rest) [] → ⊥
+no_token t rest d = elim d [ ]
 
-pub of_right : {A : Type 0} (x : A) (xs ys : List A) → IsOneOf x ys → IsOneOf x (xs ++ ys)
-of_right x [] ys h = h
-of_right x (z ∷ xs) ys h = inr (of_right x xs ys h)
+-- productions
+head_of : (t : Terminal) (p : List Symbol) (ps : List (List Symbol)) → IsOneOf (S.Token t ∷ p) ps → IsOneOf t (heads ps)
+head_of t p [] h = absurd h
+head_of t p ([] ∷ ps) (inl e) = absurd cc
+head_of t p ([] ∷ ps) (inr h) = head_of t p ps h
+head_of t p ((S.Token u ∷ q) ∷ ps) (inl e) = inl cc
+head_of t p ((S.Token u ∷ q) ∷ ps) (inr h) = inr (head_of t p ps h)
+head_of t p ((S.Part n ∷ q) ∷ ps) (inl e) = absurd cc
+head_of t p ((S.Part n ∷ q) ∷ ps) (inr h) = head_of t p ps h
 
-of_append : {A : Type 0} (x : A) (xs ys : List A) → IsOneOf x (xs ++ ys) → IsOneOf x xs ⊎ IsOneOf x ys
-of_append x [] ys h = inr h
-of_append x (z ∷ xs) ys (inl e) = inl (inl e)
-of_append x (z ∷ xs) ys (inr h) = elim (of_append x xs ys h) [ inl a ↦ inl (inr a) | inr b ↦ inr b ]
+no_part : (n : Nonterminal) (p : List Symbol) (ps : List (List Symbol)) → begin_with_tokens ps ≡ true → IsOneOf (S.Part n ∷ p) ps → ⊥
+no_part n p [] h i = i
+no_part n p ([] ∷ ps) h (inl e) = cc
+no_part n p ([] ∷ ps) h (inr i) = no_part n p ps h i
+no_part n p ((S.Token u ∷ q) ∷ ps) h (inl e) = cc
+no_part n p ((S.Token u ∷ q) ∷ ps) h (inr i) = no_part n p ps h i
+no_part n p ((S.Part m ∷ q) ∷ ps) h i = cc
 
-pub all_of : {A : Type 0} (test : A → Bool) (xs : List A) (x : A) → list_all test xs ≡ true → IsOneOf x xs → test x ≡ true
-all_of test [] x h i = absurd i
-all_of test (y ∷ ys) x h (inl e) = ap test e ∙ left (test y) (list_all test ys) h
-all_of test (y ∷ ys) x h (inr i) = all_of test ys x (right (test y) (list_all test ys) h) i
+empty_complete : (ps : List (List Symbol)) → IsOneOf [] ps → has_empty ps ≡ true
+empty_complete [] h = absurd h
+empty_complete ([] ∷ ps) h = refl
+empty_complete ((s ∷ p) ∷ ps) (inl e) = absurd cc
+empty_complete ((s ∷ p) ∷ ps) (inr h) = empty_complete ps h
 
-or_by : (b : Bool) (t u : Terminal) (us : List Terminal) → sameb the_type t u ≡ b → (list_any (sameb the_type t) us ≡ true → IsOneOf t us) →
-    b || list_any (sameb the_type t) us ≡ true → IsOneOf t (u ∷ us)
-or_by true t u us e f h = inl (same_true the_type tt t u e)
-or_by false t u us e f h = inr (f h)
+pass_by : (b : Bool) (u t : Terminal) (kind : LexemeKind) (q p : List Symbol) (o : Option (List Symbol)) → passes u kind ≡ b → apart u t ≡ true → passes t kind ≡ true →
+    o ≡ Some p → (if b then Some q else o) ≡ Some p
+pass_by true u t kind q p o e h g i = absurd (apart_right u t kind h e g)
+pass_by false u t kind q p o e h g i = i
 
-any_of : (t : Terminal) (us : List Terminal) → list_any (sameb the_type t) us ≡ true → IsOneOf t us
-any_of t [] h = absurd cc
-any_of t (u ∷ us) h = or_by (sameb the_type t u) t u us refl (any_of t us) h
+same_by : (b : Bool) (q p : List Symbol) (o : Option (List Symbol)) → b ≡ true → q ≡ p → (if b then Some q else o) ≡ Some p
+same_by true q p o h e = ap Some e
+same_by false q p o h e = absurd cc
 
-among_within : (ts us : List Terminal) → among ts us ≡ true → Within ts us
-among_within ts us h t i = any_of t us (all_of (λ t. list_any (sameb the_type t) us) ts t h i)
+chosen_first : (ps : List (List Symbol)) (kind : LexemeKind) (t : Terminal) (p : List Symbol) → all_apart (heads ps) ≡ true → IsOneOf (S.Token t ∷ p) ps →
+    passes t kind ≡ true → chosen ps kind ≡ Some p
+chosen_first [] kind t p h i g = absurd i
+chosen_first ([] ∷ ps) kind t p h (inl e) g = absurd cc
+chosen_first ([] ∷ ps) kind t p h (inr i) g = chosen_first ps kind t p h i g
+chosen_first ((S.Token u ∷ q) ∷ ps) kind t p h (inl e) g =
+    let same : u ≡ t = cc in
+    same_by (passes u kind) q p (chosen ps kind) (ap (λ v. passes v kind) same ∙ g) cc
+chosen_first ((S.Token u ∷ q) ∷ ps) kind t p h (inr i) g =
+    pass_by (passes u kind) u t kind q p (chosen ps kind) refl
+        (all_of (apart u) (heads ps) t (left (list_all (apart u) (heads ps)) (all_apart (heads ps)) h) (head_of t p ps i)) g
+        (chosen_first ps kind t p (right (list_all (apart u) (heads ps)) (all_apart (heads ps)) h) i g)
+chosen_first ((S.Part n ∷ q) ∷ ps) kind t p h (inl e) g = absurd cc
+chosen_first ((S.Part n ∷ q) ∷ ps) kind t p h (inr i) g = chosen_first ps kind t p h i g
 
--- what symbols begin with, before others
-firsts_append : (p s : List Symbol) → firsts (p ++ s) [] ≡ firsts p (firsts s [])
-firsts_append [] s = refl
-firsts_append (S.Token t ∷ p) s = refl
-firsts_append (S.Part n ∷ p) s = ap (λ (r : List Terminal). heads (productions n) ++ (if has_empty (productions n) then r else [])) (firsts_append p s)
+none_by : (b : Bool) (q : List Symbol) (o : Option (List Symbol)) → (b ≡ true → ⊥) → o ≡ None → (if b then Some q else o) ≡ None
+none_by true q o h e = absurd (h refl)
+none_by false q o h e = e
 
-tail_by : (b : Bool) (hs f g : List Terminal) → Within f g → Within (hs ++ (if b then f else [])) (hs ++ (if b then g else []))
-tail_by true hs f g w t i = elim (of_append t hs f i) [ inl a ↦ of_left t hs g a | inr c ↦ of_right t hs g (w t c) ]
-tail_by false hs f g w t i = i
+chosen_none : (ps : List (List Symbol)) (kind : LexemeKind) → ((t : Terminal) → IsOneOf t (heads ps) → passes t kind ≡ true → ⊥) → chosen ps kind ≡ None
+chosen_none [] kind h = refl
+chosen_none ([] ∷ ps) kind h = chosen_none ps kind h
+chosen_none ((S.Token u ∷ q) ∷ ps) kind h =
+    none_by (passes u kind) q (chosen ps kind) (h u (inl refl)) (chosen_none ps kind (λ t i. h t (inr i)))
+chosen_none ((S.Part n ∷ q) ∷ ps) kind h = chosen_none ps kind h
 
-firsts_within : (p : List Symbol) (f g : List Terminal) → Within f g → Within (firsts p f) (firsts p g)
-firsts_within [] f g w = w
-firsts_within (S.Token t ∷ p) f g w = λ u i. i
-firsts_within (S.Part n ∷ p) f g w = tail_by (has_empty (productions n)) (heads (productions n)) (firsts p f) (firsts p g) (firsts_within p f g w)
+-- what symbols begin with
+pub record Begins (ts : List Terminal) (kind : LexemeKind) : Type 0 where
+  pub with : Terminal
+  pub one : IsOneOf with ts
+  pub good : passes with kind ≡ true
 
-pub sits_append : (p s : List Symbol) (f : List Terminal) → sits p f ≡ true → Within (firsts s []) f → Sits s → Sits (p ++ s)
-sits_append [] s f h w i = i
-sits_append (S.Token t ∷ p) s f h w i = sits_append p s f h w i
-sits_append (S.Part n ∷ p) s f h w i =
-    (λ t a. among_within (firsts p f) (follow n) (left (among (firsts p f) (follow n)) (sits p f) h) t
-        (firsts_within p (firsts s []) f w t (subst (IsOneOf t) (firsts_append p s) a)),
-    sits_append p s f (right (among (firsts p f) (follow n)) (sits p f) h) w i)
+right_by : (b : Bool) (t : Terminal) (hs fs : List Terminal) → b ≡ true → IsOneOf t fs → IsOneOf t (hs ++ (if b then fs else []))
+right_by true t hs fs h i = of_right t hs fs i
+right_by false t hs fs h i = absurd cc
 
--- a step keeps that
-token_sits : (b : Bool) (rest next : List Symbol) → (if b then Some rest else None) ≡ Some next → Sits rest → Sits next
-token_sits true rest next e h = let same : rest ≡ next = cc in subst Sits same h
-token_sits false rest next e h = absurd cc
+derives_begins : (symbols : List Symbol) (l : Lexeme) (ls : Tokens) → Derives symbols (l ∷ ls) → Begins (firsts symbols []) l.kind
+derives_begins [] l ls d = elim d [ ]
+derives_begins (S.Token t ∷ rest) l ls (token h d) = record { with = t; one = inl refl; good = h }
+derives_begins (S.Part n ∷ rest) l ls (part [] one d) =
+    let b = derives_begins rest l ls d in
+    record { with = b.with; one = right_by (has_empty (productions n)) b.with (heads (productions n)) (firsts rest []) (empty_complete (productions n) one) b.one; good = b.good }
+derives_begins (S.Part n ∷ rest) l ls (part (S.Token t ∷ p) one d) =
+    record { with = t; one = of_left t (heads (productions n)) (if has_empty (productions n) then firsts rest [] else []) (head_of t p (productions n) one); good = (first t (p ++ rest) l ls d).good }
+derives_begins (S.Part n ∷ rest) l ls (part (S.Part m ∷ p) one d) = absurd (no_part m p (productions n) (begun n) one)
 
-part_sits : (o : Option (List Symbol)) (b : Bool) (n : Nonterminal) (rest next : List Symbol) (kind : LexemeKind) →
-    chosen (productions n) kind ≡ o → (step rest kind ≡ Some next → Sits next) →
-    replaced o rest (if b then step rest kind else None) ≡ Some next → Sits (S.Part n ∷ rest) → Sits next
-part_sits None true n rest next kind g later e h = later e
-part_sits None false n rest next kind g later e h = absurd cc
-part_sits (Some p) b n rest next kind g later e h =
-    let same : p ++ rest ≡ next = cc in
-    let begun = chosen_sound (productions n) kind p g in
-    subst Sits same (sits_append p rest (follow n) (all_of (λ p. sits p (follow n)) (productions n) (S.Token begun.first ∷ p) (sitting n) begun.one) h.0 h.1)
+-- the step
+pub record Stepped (symbols : List Symbol) (l : Lexeme) (ls : Tokens) : Type 0 where
+  pub next : List Symbol
+  pub is : step symbols l.kind ≡ Some next
+  pub after : Derives next ls
 
-pub step_sits : (symbols next : List Symbol) (kind : LexemeKind) → step symbols kind ≡ Some next → Sits symbols → Sits next
-step_sits [] next kind e h = absurd cc
-step_sits (S.Token t ∷ rest) next kind e h = token_sits (passes t kind) rest next e h
-step_sits (S.Part n ∷ rest) next kind e h =
-    part_sits (chosen (productions n) kind) (has_empty (productions n)) n rest next kind refl (λ i. step_sits rest next kind i h.1) e h
+replaced_some : (o : Option (List Symbol)) (p rest : List Symbol) (other : Option (List Symbol)) → o ≡ Some p → replaced o rest other ≡ Some (p ++ rest)
+replaced_some o p rest other e = ap (λ (r : Option (List Symbol)). replaced r rest other) e
+
+replaced_none : (o : Option (List Symbol)) (b : Bool) (rest : List Symbol) (s t : Option (List Symbol)) → o ≡ None → b ≡ true → s ≡ t → replaced o rest (if b then s else None) ≡ t
+replaced_none o b rest s t e f g = (λ i. replaced (e i) rest (if f i then s else None)) ∙ g
+
+apart_by : (b : Bool) (hs fs : List Terminal) (t u : Terminal) → b ≡ true → (if b then each_apart hs fs else true) ≡ true → IsOneOf t hs → IsOneOf u fs → apart t u ≡ true
+apart_by true hs fs t u e h i j = all_of (apart t) fs u (all_of (λ t. list_all (apart t) fs) hs t h i) j
+apart_by false hs fs t u e h i j = absurd cc
+
+pub step_complete : (symbols : List Symbol) (l : Lexeme) (ls : Tokens) → Sits symbols → Derives symbols (l ∷ ls) → Stepped symbols l ls
+step_complete [] l ls h d = elim d [ ]
+step_complete (S.Token t ∷ rest) l ls h (token g d) = record { next = rest; is = same_by (passes t l.kind) rest rest None g refl; after = d }
+step_complete (S.Part n ∷ rest) l ls h (part [] one d) =
+    let later = step_complete rest l ls h.1 d in
+    let b = derives_begins rest l ls d in
+    let some_empty = empty_complete (productions n) one in
+    let none = chosen_none (productions n) l.kind (λ t i g.
+        apart_right t b.with l.kind (apart_by (has_empty (productions n)) (heads (productions n)) (follow n) t b.with some_empty (ended n) i (h.0 b.with b.one)) g b.good) in
+    record { next = later.next; is = replaced_none (chosen (productions n) l.kind) (has_empty (productions n)) rest (step rest l.kind) (Some later.next) none some_empty later.is; after = later.after }
+step_complete (S.Part n ∷ rest) l ls h (part (S.Token t ∷ p) one d) =
+    let f = first t (p ++ rest) l ls d in
+    record {
+      next = p ++ rest;
+      is = replaced_some (chosen (productions n) l.kind) p rest (if has_empty (productions n) then step rest l.kind else None)
+          (chosen_first (productions n) l.kind t p (different n) one f.good);
+      after = f.after;
+    }
+step_complete (S.Part n ∷ rest) l ls h (part (S.Part m ∷ p) one d) = absurd (no_part m p (productions n) (begun n) one)
+
+two : (a b : Bool) → a ≡ true → b ≡ true → a && b ≡ true
+two true b e f = f
+two false b e f = absurd cc
+
+pub end_complete : (symbols : List Symbol) → Derives symbols [] → may_end symbols ≡ true
+end_complete [] d = refl
+end_complete (S.Token t ∷ rest) d = absurd (no_token t rest d)
+end_complete (S.Part n ∷ rest) (part [] one d) =
+    two (has_empty (productions n)) (may_end rest) (empty_complete (productions n) one) (end_complete rest d)
+end_complete (S.Part n ∷ rest) (part (S.Token t ∷ p) one d) = absurd (no_token t (p ++ rest) d)
+end_complete (S.Part n ∷ rest) (part (S.Part m ∷ p) one d) = absurd (no_part m p (productions n) (begun n) one)

@@ -1,13 +1,14 @@
 -- What a step leaves derives what comes after the lexeme, so the symbols before it derive it all.
-use Rattle.std.proofs.Common.{◌≡◌, refl, sym, subst, inl, inr, ◌⊎◌, Bool, true, false, List, [], ◌∷◌, ◌++◌, Option, Some, None}
+use Rattle.std.proofs.Common.{◌≡◌, refl, sym, subst, ℕ, suc, inl, inr, ◌⊎◌, Bool, true, false, List, [], ◌∷◌, ◌++◌, Option, Some, None}
 use Rattle.std.specs.Prelude.{if◌then◌else◌, ◌&&◌}
+use Rattle.std.specs.Option.{option_map}
 use Rattle.text_tokens.specs.declared.lexeme.Lexeme.{Lexeme}
 use Rattle.text_tokens.specs.declared.lexeme.LexemeKind.{LexemeKind}
 use Rattle.text_grammar.specs.declared.symbol.Symbol.{Symbol}
 use Rattle.text_grammar.specs.declared.symbol.Symbol.TheVariants as S
 use Rattle.text_grammar.specs.declared.symbol.Nonterminal.{Nonterminal}
 use Rattle.text_grammar.specs.declared.symbol.Terminal.{Terminal}
-use Rattle.text_grammar.specs.Choices.{chosen, has_empty, replaced, step, may_end}
+use Rattle.text_grammar.specs.Choices.{chosen, has_empty, replaced, step, may_end, fault_from, fault_after}
 use Rattle.text_grammar.specs.Derivations.{Tokens, IsOneOf, Derives, nothing, token, part}
 use Rattle.text_grammar.specs.Grammar.{productions}
 use Rattle.text_grammar.specs.Tests.{passes}
@@ -71,3 +72,21 @@ end_sound (S.Token t ∷ rest) h = absurd cc
 end_sound (S.Part n ∷ rest) h =
     let two = both (has_empty (productions n)) (may_end rest) h in
     part [] (empty_sound (productions n) two.0) (end_sound rest two.1)
+
+end_by : (b : Bool) (symbols : List Symbol) → may_end symbols ≡ b → (let o : Option ℕ = if b then None else Some 0 in o) ≡ None → Derives symbols []
+end_by true symbols e h = end_sound symbols e
+end_by false symbols e h = absurd cc
+
+after_none : (o : Option ℕ) → option_map (λ k. suc k) o ≡ None → o ≡ None
+after_none None h = refl
+after_none (Some k) h = absurd cc
+
+next_by : (o : Option (List Symbol)) (symbols : List Symbol) (l : Lexeme) (ls : Tokens) → step symbols l.kind ≡ o →
+    ((next : List Symbol) → fault_from next ls ≡ None → Derives next ls) → fault_after o (λ next. fault_from next ls) ≡ None → Derives symbols (l ∷ ls)
+next_by None symbols l ls e later h = absurd cc
+next_by (Some next) symbols l ls e later h = step_sound symbols next l ls e (later next (after_none (fault_from next ls) h))
+
+-- tokens without a fault are derived
+pub none_sound : (symbols : List Symbol) (ls : Tokens) → fault_from symbols ls ≡ None → Derives symbols ls
+none_sound symbols [] h = end_by (may_end symbols) symbols refl h
+none_sound symbols (l ∷ ls) h = next_by (step symbols l.kind) symbols l ls refl (λ next. none_sound next ls) h
