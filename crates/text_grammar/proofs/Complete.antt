@@ -71,8 +71,8 @@ chosen_first ((S.Token u ∷ q) ∷ ps) kind t p h (inl e) g =
     same_by (passes u kind) q p (chosen ps kind) (ap (λ v. passes v kind) same ∙ g) cc
 chosen_first ((S.Token u ∷ q) ∷ ps) kind t p h (inr i) g =
     pass_by (passes u kind) u t kind q p (chosen ps kind) refl
-        (all_of (apart u) (heads ps) t (left (list_all (apart u) (heads ps)) (all_apart (heads ps)) h) (head_of t p ps i)) g
-        (chosen_first ps kind t p (right (list_all (apart u) (heads ps)) (all_apart (heads ps)) h) i g)
+    (all_of (apart u) (heads ps) t (left (list_all (apart u) (heads ps)) (all_apart (heads ps)) h) (head_of t p ps i)) g
+    (chosen_first ps kind t p (right (list_all (apart u) (heads ps)) (all_apart (heads ps)) h) i g)
 chosen_first ((S.Part n ∷ q) ∷ ps) kind t p h (inl e) g = absurd cc
 chosen_first ((S.Part n ∷ q) ∷ ps) kind t p h (inr i) g = chosen_first ps kind t p h i g
 
@@ -131,7 +131,7 @@ step_complete (S.Part n ∷ rest) l ls h (part [] one d) =
     let b = derives_begins rest l ls d in
     let some_empty = empty_complete (productions n) one in
     let none = chosen_none (productions n) l.kind (λ t i g.
-        apart_right t b.with l.kind (apart_by (has_empty (productions n)) (heads (productions n)) (follow n) t b.with some_empty (ended n) i (h.0 b.with b.one)) g b.good) in
+    apart_right t b.with l.kind (apart_by (has_empty (productions n)) (heads (productions n)) (follow n) t b.with some_empty (ended n) i (h.0 b.with b.one)) g b.good) in
     record { next = later.next; is = replaced_none (chosen (productions n) l.kind) (has_empty (productions n)) rest (step rest l.kind) (Some later.next) none some_empty later.is; after = later.after }
 step_complete (S.Part n ∷ rest) l ls h (part (S.Token t ∷ p) one d) =
     let f = first t (p ++ rest) l ls d in

@@ -5,3 +5,5 @@ pub mod Sitting
 pub mod Complete
 pub mod Endings
 pub mod Exact
+pub mod Rules
+pub mod Stepping

@@ -78,10 +78,11 @@ firsts_within (S.Part n ∷ p) f g w = tail_by (has_empty (productions n)) (head
 pub sits_append : (p s : List Symbol) (f : List Terminal) → sits p f ≡ true → Within (firsts s []) f → Sits s → Sits (p ++ s)
 sits_append [] s f h w i = i
 sits_append (S.Token t ∷ p) s f h w i = sits_append p s f h w i
-sits_append (S.Part n ∷ p) s f h w i =
-    (λ t a. among_within (firsts p f) (follow n) (left (among (firsts p f) (follow n)) (sits p f) h) t
-        (firsts_within p (firsts s []) f w t (subst (IsOneOf t) (firsts_append p s) a)),
-    sits_append p s f (right (among (firsts p f) (follow n)) (sits p f) h) w i)
+sits_append (S.Part n ∷ p) s f h w i = (
+  λ t a. among_within (firsts p f) (follow n) (left (among (firsts p f) (follow n)) (sits p f) h) t
+      (firsts_within p (firsts s []) f w t (subst (IsOneOf t) (firsts_append p s) a)),
+  sits_append p s f (right (among (firsts p f) (follow n)) (sits p f) h) w i,
+)
 
 -- a step keeps that
 token_sits : (b : Bool) (rest next : List Symbol) → (if b then Some rest else None) ≡ Some next → Sits rest → Sits next

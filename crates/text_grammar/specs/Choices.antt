@@ -65,3 +65,18 @@ fault_after (Some symbols) later = option_map (λ k. suc k) (later symbols)
 abbrev pub fault_from : List Symbol → List Lexeme → Option ℕ
 fault_from symbols [] = if may_end symbols then None else Some 0
 fault_from symbols (l ∷ ls) = fault_after (step symbols l.kind) (λ next. fault_from next ls)
+
+-- whether a lexeme was taken, and what is to come then: what was chosen before what came after, or
+-- what it was
+abbrev pub Expands : Option (List Symbol) → List Symbol → Bool → List Symbol → Type 0
+Expands None old true new = ⊥
+Expands None old false new = new ≡ old
+Expands (Some p) old true new = new ≡ p ++ old
+Expands (Some p) old false new = ⊥
+
+-- the same of a whole step
+abbrev pub Takes : Option (List Symbol) → Bool → List Symbol → Type 0
+Takes None true new = ⊥
+Takes None false new = Unit {0}
+Takes (Some next) true new = new ≡ next
+Takes (Some next) false new = ⊥

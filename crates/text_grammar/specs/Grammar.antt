@@ -126,9 +126,9 @@ productions N.Factors =
 -- `def*`
 productions N.Definitions =
     (T.Def ▸ T.Fn ▸ T.Dot ▸ T.Name ▸ N.NameEnd ▹ N.ImplicitParameters ▹ T.OpenBracket ▸ T.Fuel ▸
-        T.Colon ▸ T.Nat ▸ T.CloseBracket ▸ N.Parameters ▹ T.Colon ▸ T.Result ▸ N.Type ▹ T.Becomes ▸
-        T.Match ▸ T.Fuel ▸ T.With ▸ T.Bar ▸ T.Zero ▸ T.Gives ▸ T.OutOfFuel ▸ T.Bar ▸ T.Fuel ▸ T.Plus ▸
-        T.One ▸ T.Gives ▸ T.Do ▸ N.Code ▹ N.Definitions ▹ [])
+    T.Colon ▸ T.Nat ▸ T.CloseBracket ▸ N.Parameters ▹ T.Colon ▸ T.Result ▸ N.Type ▹ T.Becomes ▸
+    T.Match ▸ T.Fuel ▸ T.With ▸ T.Bar ▸ T.Zero ▸ T.Gives ▸ T.OutOfFuel ▸ T.Bar ▸ T.Fuel ▸ T.Plus ▸
+    T.One ▸ T.Gives ▸ T.Do ▸ N.Code ▹ N.Definitions ▹ [])
     ∷ [] ∷ []
 -- `("." "loop"k)? ("." "back"k)?`
 productions N.NameEnd =

@@ -1,8 +1,8 @@
 //! The symbols of the grammar of printed texts: tokens, and parts that consist of tokens.
 
 /// A token of the grammar.
-#[derive(Clone, Copy, Debug, PartialEq, Eq)]
-pub enum Terminal {
+#[derive(Clone, Copy, PartialEq, Eq)]
+pub(crate) enum Terminal {
     /// `true`
     True,
     /// `false`
@@ -128,8 +128,8 @@ pub enum Terminal {
 }
 
 /// A part of a text.
-#[derive(Clone, Copy, Debug, PartialEq, Eq)]
-pub enum Nonterminal {
+#[derive(Clone, Copy)]
+pub(crate) enum Nonterminal {
     /// A whole text.
     Text,
     /// Declarations of types.
@@ -209,8 +209,8 @@ pub enum Nonterminal {
 }
 
 /// A symbol of the grammar.
-#[derive(Clone, Copy, Debug)]
-pub enum Symbol {
+#[derive(Clone, Copy)]
+pub(crate) enum Symbol {
     Token(Terminal),
     Part(Nonterminal),
 }
