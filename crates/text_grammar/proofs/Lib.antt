@@ -1,0 +1,9 @@
+pub mod Sound
+pub mod Apart
+pub mod Follows
+pub mod Sitting
+pub mod Complete
+pub mod Endings
+pub mod Exact
+pub mod Rules
+pub mod Stepping

@@ -1,0 +1,6 @@
+use Rattle.std.proofs.Common.{◌≡◌, ◌++◌, map, reverse, drop, length}
+use Rattle.text_grammar.specs.Choices as spec
+use Rattle.text_grammar.proofs.recognizer.put.Given as goal
+
+abbrev pub invariant-loop-symbol : goal.invariant-loop-symbol
+invariant-loop-symbol l = l.coming ≡ l.fn.coming ++ map (λ s. s.now) l.yielded

@@ -1,0 +1,13 @@
+//! Where the tokens of a printed text leave its grammar (docs/TEXT.md, "Grammar").
+#![tactic(auto)]
+
+mod bare;
+mod recognizer;
+mod symbol;
+mod table;
+#[cfg(test)]
+mod tests;
+mod words;
+
+pub use bare::is_bare;
+pub use recognizer::grammar_fault;
