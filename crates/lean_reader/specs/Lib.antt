@@ -25,3 +25,4 @@ pub mod Places
 pub mod Kinds
 pub mod Signs
 pub mod Outlining
+pub mod Faults

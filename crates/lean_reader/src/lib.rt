@@ -15,6 +15,7 @@ mod declarations;
 mod definition;
 mod digits;
 mod fault;
+mod fault_places;
 mod fields;
 mod frames;
 mod fuel;
