@@ -33,3 +33,6 @@ pub mod Placing
 pub mod Keys
 pub mod Apart
 pub mod Identifying
+pub mod Agreeing
+pub mod Fits
+pub mod Signing

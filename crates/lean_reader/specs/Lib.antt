@@ -22,3 +22,4 @@ pub mod Places
 pub mod Kinds
 pub mod Signs
 pub mod Outlining
+pub mod Fitting
