@@ -36,3 +36,5 @@ pub mod Identifying
 pub mod Agreeing
 pub mod Fits
 pub mod Signing
+pub mod Silence
+pub mod Skipping
