@@ -170,7 +170,7 @@ unfolding s.small_number
 variable_by true c w h = digits_by (are_digits w) _ h
 variable_by false c w h = refl
 
-no_variable : (w : List ℕ) → is_variable w ≡ false → s.after_prefix (codes "v") w ≡ None
+pub no_variable : (w : List ℕ) → is_variable w ≡ false → s.after_prefix (codes "v") w ≡ None
 no_variable [] h = refl
 no_variable (c ∷ w) h = variable_by (c == 118) c w h
 

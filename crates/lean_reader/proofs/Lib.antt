@@ -39,3 +39,8 @@ pub mod Placing
 pub mod Keys
 pub mod Apart
 pub mod Identifying
+pub mod Agreeing
+pub mod Fits
+pub mod Signing
+pub mod Silence
+pub mod Skipping

@@ -32,7 +32,7 @@ use Rattle.lean_reader.proofs.Testing.{each_at, mapped_each, place_sound, place_
 use Rattle.lean_reader.proofs.Texts.{order_fits, text_read, text_well_formed}
 
 -- kinds
-kind_same : (a b : DefKind) → same_kind a b ≡ true → a ≡ b
+pub kind_same : (a b : DefKind) → same_kind a b ≡ true → a ≡ b
 kind_same (K.Forward f) (K.Forward g) h = (λ i. K.Forward (record { 0 = eqb-true f.0 g.0 h i }))
 kind_same (K.Back f r) (K.Back g s) h = (λ i. K.Back (record { 0 = eqb-true f.0 g.0 (and_left _ _ h) i }) (record { 0 = eqb-true r.0 s.0 (and_right (f.0 == g.0) _ h) i }))
 kind_same (K.Loop f k) (K.Loop g l) h = (λ i. K.Loop (record { 0 = eqb-true f.0 g.0 (and_left _ _ h) i }) (record { 0 = eqb-true k.0 l.0 (and_right (f.0 == g.0) _ h) i }))
@@ -52,7 +52,7 @@ kind_same (K.LoopBack f r c) (K.Forward g) h = absurd cc
 kind_same (K.LoopBack f r c) (K.Back g s) h = absurd cc
 kind_same (K.LoopBack f r c) (K.Loop g s) h = absurd cc
 
-same_itself : (a : DefKind) → same_kind a a ≡ true
+pub same_itself : (a : DefKind) → same_kind a a ≡ true
 same_itself (K.Forward f) = same_number f.0
 same_itself (K.Back f r) = and_true _ _ (same_number f.0) (same_number r.0)
 same_itself (K.Loop f k) = and_true _ _ (same_number f.0) (same_number k.0)

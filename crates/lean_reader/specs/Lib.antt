@@ -26,3 +26,4 @@ pub mod Kinds
 pub mod Signs
 pub mod Outlining
 pub mod Faults
+pub mod Fitting
