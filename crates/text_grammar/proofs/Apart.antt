@@ -1,6 +1,6 @@
 -- Tests that no lexeme passes both.
-use Rattle.std.proofs.Common.{◌≡◌, refl, sym, ap, ◌∙◌, subst, inl, inr, ◌⊎◌, ℕ, Bool, true, false, List, [], ◌∷◌}
-use Rattle.std.specs.Prelude.{◌&&◌, ◌||◌, ◌==◌, not, bytes_eq, if◌then◌else◌}
+use Rattle.std.proofs.Common.{◌≡◌, refl, sym, ap, ◌∙◌, ℕ, Bool, true, false, List, [], ◌∷◌}
+use Rattle.std.specs.Prelude.{◌&&◌, ◌||◌, ◌==◌, not, bytes_eq}
 use Rattle.std.specs.List.{list_any, list_all}
 use Rattle.std.specs.Cmp.Lexicographic.{bytes_decides}
 use Rattle.std.proofs.Common.{arith}
@@ -8,7 +8,7 @@ use Rattle.std.proofs.lemmas.Bool.Decides.{nat_tests}
 use denote.Enum.Bare.{sameb, same_true, true_same}
 use Rattle.text_meaning.specs.contracts.mark.Mark.{the_type}
 use Rattle.text_meaning.specs.declared.mark.Mark.{Mark}
-use Rattle.text_meaning.specs.Names.{begins, is_word_start, is_word_byte, is_reserved, is_bare, is_variable, are_digits}
+use Rattle.text_meaning.specs.Names.{begins, is_word_start, is_word_byte, is_reserved, is_bare, is_variable}
 use Rattle.text_tokens.specs.declared.lexeme.LexemeKind.{LexemeKind}
 use Rattle.text_tokens.specs.declared.lexeme.LexemeKind.TheVariants as L
 use Rattle.text_grammar.specs.declared.symbol.Terminal.{Terminal}

@@ -1,6 +1,6 @@
 -- Where the symbols derive a lexeme and what comes after it, the step takes that lexeme: the choice of
 -- a production is forced, since what may come after each part is known.
-use Rattle.std.proofs.Common.{◌≡◌, refl, sym, ap, ◌∙◌, subst, inl, inr, ◌⊎◌, Bool, true, false, List, [], ◌∷◌, ◌++◌, Option, Some, None}
+use Rattle.std.proofs.Common.{◌≡◌, refl, ap, ◌∙◌, inl, inr, Bool, true, false, List, [], ◌∷◌, ◌++◌, Option, Some, None}
 use Rattle.std.specs.Prelude.{if◌then◌else◌, ◌&&◌}
 use Rattle.std.specs.List.{list_all}
 use Rattle.text_tokens.specs.declared.lexeme.Lexeme.{Lexeme}
@@ -10,11 +10,11 @@ use Rattle.text_grammar.specs.declared.symbol.Symbol.TheVariants as S
 use Rattle.text_grammar.specs.declared.symbol.Nonterminal.{Nonterminal}
 use Rattle.text_grammar.specs.declared.symbol.Terminal.{Terminal}
 use Rattle.text_grammar.specs.Choices.{chosen, has_empty, replaced, step, may_end}
-use Rattle.text_grammar.specs.Derivations.{Tokens, IsOneOf, Derives, nothing, token, part}
+use Rattle.text_grammar.specs.Derivations.{Tokens, IsOneOf, Derives, token, part}
 use Rattle.text_grammar.specs.Grammar.{productions}
 use Rattle.text_grammar.specs.Tests.{passes}
 use Rattle.text_grammar.proofs.Apart.{apart, apart_right, left, right}
-use Rattle.text_grammar.proofs.Follows.{heads, firsts, follow, begin_with_tokens, all_apart, each_apart, ends_apart, begun, different, ended}
+use Rattle.text_grammar.proofs.Follows.{heads, firsts, follow, begin_with_tokens, all_apart, each_apart, begun, different, ended}
 use Rattle.text_grammar.proofs.Sitting.{Sits, of_left, of_right, all_of}
 
 -- what stands first

@@ -1,5 +1,5 @@
 -- Any symbols derive some tokens, so tokens after which they are still to come begin a text.
-use Rattle.std.proofs.Common.{◌≡◌, refl, sym, subst, ℕ, Bool, true, List, [], ◌∷◌, ◌++◌, map, append_assoc, Option, Some, None}
+use Rattle.std.proofs.Common.{◌≡◌, refl, subst, true, List, [], ◌∷◌, ◌++◌, map, append_assoc, None}
 use Rattle.std.specs.Prelude.{codes}
 use Rattle.text_tokens.specs.declared.lexeme.Lexeme.{Lexeme}
 use Rattle.text_tokens.specs.declared.lexeme.LexemeKind.{LexemeKind}

@@ -1,15 +1,13 @@
 -- The fault that the steps find is the first place where the tokens leave the grammar.
-use Rattle.std.proofs.Common.{◌≡◌, refl, sym, ap, ◌∙◌, subst, ℕ, zero, suc, ◌≤◌, ◌<◌, arith, Bool, true, false, List, [], ◌∷◌, ◌++◌, take, length, Option, Some, None, MatchOption}
+use Rattle.std.proofs.Common.{◌≡◌, refl, subst, ℕ, suc, ◌≤◌, ◌<◌, arith, Bool, true, false, List, [], ◌∷◌, ◌++◌, take, length, Option, Some, None, MatchOption}
 use Rattle.std.specs.Prelude.{if◌then◌else◌}
 use Rattle.std.specs.Option.{option_map}
 use Rattle.text_tokens.specs.declared.lexeme.Lexeme.{Lexeme}
 use Rattle.text_grammar.specs.declared.symbol.Symbol.{Symbol}
-use Rattle.text_grammar.specs.declared.symbol.Symbol.TheVariants as S
-use Rattle.text_grammar.specs.declared.symbol.Nonterminal.TheVariants as N
 use Rattle.text_grammar.specs.Choices.{step, may_end, fault_from, fault_after}
 use Rattle.text_grammar.specs.Derivations.{Tokens, Derives, start, IsGrammatical, IsGrammarFault}
-use Rattle.text_grammar.proofs.Complete.{Stepped, step_complete, end_complete}
-use Rattle.text_grammar.proofs.Endings.{Completed, completed}
+use Rattle.text_grammar.proofs.Complete.{step_complete, end_complete}
+use Rattle.text_grammar.proofs.Endings.{completed}
 use Rattle.text_grammar.proofs.Sitting.{Sits, step_sits}
 use Rattle.text_grammar.proofs.Sound.{step_sound, end_sound}
 

@@ -1,16 +1,12 @@
 -- A rule's productions, and what a lexeme chooses of them.
-use Rattle.std.proofs.Common.{◌≡◌, refl, sym, ap, ◌∙◌, subst, ℕ, suc, ◌+◌, arith, Bool, true, false, List, [], ◌∷◌, ◌++◌, map, append_assoc, Option, Some, None}
-use Rattle.std.specs.Prelude.{if◌then◌else◌, ◌&&◌}
-use Rattle.std.specs.Option.{option_map}
+use Rattle.std.proofs.Common.{◌≡◌, refl, sym, ap, ◌∙◌, Bool, true, false, List, [], ◌∷◌, ◌++◌, map, append_assoc, Option, Some, None}
+use Rattle.std.specs.Prelude.{if◌then◌else◌}
 use Rattle.text_tokens.specs.declared.lexeme.LexemeKind.{LexemeKind}
 use Rattle.text_grammar.specs.declared.symbol.Symbol.{Symbol}
-use Rattle.text_grammar.specs.declared.symbol.Symbol.TheVariants as S
-use Rattle.text_grammar.specs.declared.symbol.Nonterminal.{Nonterminal}
-use Rattle.text_grammar.specs.declared.symbol.Terminal.{Terminal}
 use Rattle.text_grammar.specs.declared.table.Alternative.{Alternative}
 use Rattle.text_grammar.specs.declared.table.Rule.{Rule}
-use Rattle.text_grammar.specs.Choices.{production, perhaps_nothing, ways, chosen, has_empty, replaced, step, Expands, Takes}
-use Rattle.text_grammar.specs.Grammar.{followed, productions}
+use Rattle.text_grammar.specs.Choices.{production, perhaps_nothing, ways, chosen, has_empty, Expands}
+use Rattle.text_grammar.specs.Grammar.{followed}
 use Rattle.text_grammar.specs.Tests.{passes}
 
 -- whether a rule has the empty way

@@ -1,23 +1,22 @@
 -- What comes after each part of the symbols is among the tokens that may come there, and a step keeps
 -- that.
-use Rattle.std.proofs.Common.{◌≡◌, refl, sym, ap, ◌∙◌, subst, inl, inr, ◌⊎◌, Bool, true, false, List, [], ◌∷◌, ◌++◌, Option, Some, None}
-use Rattle.std.specs.Prelude.{if◌then◌else◌, ◌&&◌, ◌||◌}
+use Rattle.std.proofs.Common.{◌≡◌, refl, ap, ◌∙◌, subst, inl, inr, ◌⊎◌, Bool, true, false, List, [], ◌∷◌, ◌++◌, Option, Some, None}
+use Rattle.std.specs.Prelude.{if◌then◌else◌, ◌||◌}
 use Rattle.std.specs.List.{list_any, list_all}
 use denote.Enum.Bare.{sameb, same_true}
-use Rattle.text_tokens.specs.declared.lexeme.Lexeme.{Lexeme}
 use Rattle.text_tokens.specs.declared.lexeme.LexemeKind.{LexemeKind}
 use Rattle.text_grammar.specs.contracts.symbol.Terminal.{the_type}
 use Rattle.text_grammar.specs.declared.symbol.Symbol.{Symbol}
 use Rattle.text_grammar.specs.declared.symbol.Symbol.TheVariants as S
 use Rattle.text_grammar.specs.declared.symbol.Nonterminal.{Nonterminal}
 use Rattle.text_grammar.specs.declared.symbol.Terminal.{Terminal}
-use Rattle.text_grammar.specs.Choices.{chosen, has_empty, replaced, step, may_end}
-use Rattle.text_grammar.specs.Derivations.{Tokens, IsOneOf, Derives, nothing, token, part}
+use Rattle.text_grammar.specs.Choices.{chosen, has_empty, replaced, step}
+use Rattle.text_grammar.specs.Derivations.{IsOneOf}
 use Rattle.text_grammar.specs.Grammar.{productions}
 use Rattle.text_grammar.specs.Tests.{passes}
-use Rattle.text_grammar.proofs.Apart.{apart, apart_right, left, right}
-use Rattle.text_grammar.proofs.Follows.{heads, firsts, follow, among, sits, begin_with_tokens, all_apart, each_apart, sit, ends_apart, sitting, begun, different, ended}
-use Rattle.text_grammar.proofs.Sound.{Begun, chosen_sound}
+use Rattle.text_grammar.proofs.Apart.{left, right}
+use Rattle.text_grammar.proofs.Follows.{heads, firsts, follow, among, sits, sitting}
+use Rattle.text_grammar.proofs.Sound.{chosen_sound}
 
 abbrev pub Within : List Terminal → List Terminal → Type 0
 Within ts us = (t : Terminal) → IsOneOf t ts → IsOneOf t us

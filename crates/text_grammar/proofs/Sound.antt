@@ -1,5 +1,5 @@
 -- What a step leaves derives what comes after the lexeme, so the symbols before it derive it all.
-use Rattle.std.proofs.Common.{◌≡◌, refl, sym, subst, ℕ, suc, inl, inr, ◌⊎◌, Bool, true, false, List, [], ◌∷◌, ◌++◌, Option, Some, None}
+use Rattle.std.proofs.Common.{◌≡◌, refl, subst, ℕ, suc, inl, inr, Bool, true, false, List, [], ◌∷◌, ◌++◌, Option, Some, None}
 use Rattle.std.specs.Prelude.{if◌then◌else◌, ◌&&◌}
 use Rattle.std.specs.Option.{option_map}
 use Rattle.text_tokens.specs.declared.lexeme.Lexeme.{Lexeme}

@@ -3,13 +3,12 @@ use Rattle.std.proofs.Common.{◌≡◌, refl, sym, ap, ◌∙◌, subst, ℕ, s
 use Rattle.std.specs.Prelude.{if◌then◌else◌, ◌&&◌}
 use Rattle.std.specs.Option.{option_map}
 use Rattle.std.proofs.lemmas.List.{reverse-append}
-use Rattle.text_tokens.specs.declared.lexeme.Lexeme.{Lexeme}
 use Rattle.text_tokens.specs.declared.lexeme.LexemeKind.{LexemeKind}
 use Rattle.text_grammar.specs.declared.symbol.Symbol.{Symbol}
 use Rattle.text_grammar.specs.declared.symbol.Symbol.TheVariants as S
 use Rattle.text_grammar.specs.declared.symbol.Nonterminal.{Nonterminal}
 use Rattle.text_grammar.specs.declared.table.Rule.{Rule}
-use Rattle.text_grammar.specs.Choices.{ways, chosen, has_empty, replaced, step, may_end, fault_from, fault_after, Expands, Takes}
+use Rattle.text_grammar.specs.Choices.{ways, chosen, has_empty, replaced, step, may_end, Expands, Takes}
 use Rattle.text_grammar.specs.Grammar.{productions}
 use Rattle.text_grammar.proofs.Rules.{empty_ways}
 

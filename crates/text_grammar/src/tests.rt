@@ -1,27 +1,34 @@
+ghost use Rattle.std.specs.Prelude.{◌<◌, ◌^◌, length};
+
 use crate::grammar_fault;
 use aen_base::NoMem;
 use std::alloc::Global;
 use text_tokens::lex;
 
-const HEAD: &str = "import AenPrelude open AenPrelude";
-
 /// The fault of a text that has only tokens.
-fn fault_of(alloc: Global, text: &str) -> Result<Option<usize>, NoMem> {
+fn fault_of(alloc: Global, text: &str) -> Result<Option<usize>, NoMem>
+    requires { length text.now < 2 ^ 32 }
+{
     let lexemes = lex(alloc, text)?;
     grammar_fault(alloc, lexemes.list.as_slice())
 }
 
-/// The fault of a definition `fn.f` with this code after the header; it begins with token 30.
-fn code_fault(alloc: Global, code: &str) -> Result<Option<usize>, NoMem> {
-    let text = format!(in alloc;
-        "{HEAD} def fn.f (n : Nat) : Result Unit := match n with | 0 => outOfFuel | n + 1 => do {code}"
-    )?;
-    fault_of(alloc, text.as_str())
+/// A text of one definition with this code, which begins with token 30.
+macro_rules! definition {
+    ($code:literal) => {
+        concat!(
+            "import AenPrelude open AenPrelude def fn.f (n : Nat) : Result Unit := match n with | 0 => outOfFuel | n + 1 => do ",
+            $code
+        )
+    };
 }
 
 #[test]
 fn whole_texts(rt: HostRuntime) -> Result<(), NoMem> {
-    assert_eq!(rt; fault_of(rt.alloc(), HEAD)?, None);
+    assert_eq!(rt;
+        fault_of(rt.alloc(), "import AenPrelude open AenPrelude")?,
+        None
+    );
     assert_eq!(rt;
         fault_of(
             rt.alloc(),
@@ -39,11 +46,10 @@ fn first_tokens_that_end_all_texts(rt: HostRuntime) -> Result<(), NoMem> {
         fault_of(rt.alloc(), "import AenPrelude open open")?,
         Some(3)
     );
-    assert_eq!(rt; code_fault(rt.alloc(), "ok ()")?, None);
-    assert_eq!(rt; code_fault(rt.alloc(), "U32.new")?, Some(32));
-    assert_eq!(rt; code_fault(rt.alloc(), "ok (v0, v1")?, Some(35));
+    assert_eq!(rt; fault_of(rt.alloc(), definition!("U32.new"))?, Some(32));
+    assert_eq!(rt; fault_of(rt.alloc(), definition!("ok (v0, v1"))?, Some(35));
     assert_eq!(rt;
-        code_fault(rt.alloc(), "let v0 ← (match v1 with)")?,
+        fault_of(rt.alloc(), definition!("let v0 ← (match v1 with)"))?,
         Some(33)
     );
     Ok(())

@@ -1,4 +1,4 @@
-use Rattle.std.proofs.Common.{◌≡◌, ◌++◌, map, reverse, drop, length}
+use Rattle.std.proofs.Common.{◌≡◌, map, drop}
 use Rattle.text_grammar.specs.Choices as spec
 use Rattle.text_grammar.proofs.recognizer.choose.Given as goal
 

@@ -1,4 +1,4 @@
-use Rattle.std.proofs.Common.{◌≡◌, sym, subst, ℕ, Option, MatchOption}
+use Rattle.std.proofs.Common.{sym, subst, ℕ, Option, MatchOption}
 use Rattle.text_grammar.specs.Derivations.{IsGrammatical, IsGrammarFault}
 use Rattle.text_grammar.proofs.Exact.{exact}
 use Rattle.text_grammar.proofs.recognizer.grammar_fault.Goals as goal

@@ -1,4 +1,4 @@
-use Rattle.std.proofs.Common.{◌≡◌, ◌++◌, map, reverse, drop, length}
+use Rattle.std.proofs.Common.{◌≡◌, reverse, length}
 use Rattle.text_grammar.specs.Choices as spec
 use Rattle.text_grammar.proofs.recognizer.may_end.Given as goal
 

@@ -1,5 +1,4 @@
-use Rattle.std.proofs.Common.{◌≡◌, ◌++◌, map, reverse, drop, length}
-use Rattle.text_grammar.specs.Choices as spec
+use Rattle.std.proofs.Common.{◌≡◌, ◌++◌, map}
 use Rattle.text_grammar.proofs.recognizer.put.Given as goal
 
 abbrev pub invariant-loop-symbol : goal.invariant-loop-symbol
