@@ -11,7 +11,7 @@ last_from k [] t = let e : k + 0 ≡ k = omega arith in rw e refl
 last_from k (u ∷ ts) t =
     let e : suc k + length ts ≡ k + suc (length ts) = omega arith in
     ap (λ (fs : List (List ℕ × PTy)). (codes "f" ++ decimal k, u) ∷ fs)
-      (last_from (suc k) ts t ∙ ap (λ (n : ℕ). numbered_fields (suc k) ts ++ (codes "f" ++ decimal n, t) ∷ []) e)
+    (last_from (suc k) ts t ∙ ap (λ (n : ℕ). numbered_fields (suc k) ts ++ (codes "f" ++ decimal n, t) ∷ []) e)
 
 pub numbered_last : (ts : List PTy) (t : PTy) → numbered_fields 0 (ts ++ t ∷ []) ≡ numbered_fields 0 ts ++ (codes "f" ++ decimal (length ts), t) ∷ []
 numbered_last ts t =

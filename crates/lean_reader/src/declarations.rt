@@ -29,10 +29,7 @@ fn field_names(alloc: Global, fields: &[(Name, PTy)]) -> Result<List<Name>, NoMe
 }
 
 /// The names of variants. The only error is want of memory.
-fn variant_names(
-    alloc: Global,
-    variants: &[(Name, List<(Name, PTy)>)],
-) -> Result<List<Name>, NoMem>
+fn variant_names(alloc: Global, variants: &[(Name, List<(Name, PTy)>)]) -> Result<List<Name>, NoMem>
     ensures { IfOk result (λ names. names ≡ names_of variants.now) }
 {
     let mut names = List::new(alloc);
@@ -126,11 +123,7 @@ impl<'a> Reader<'a> {
 
     /// Reads declarations, as long as one begins.
     #[tactic(auto, unfolding(crate::specs::Texts::types), using(crate::proofs::Turns::many_turn, crate::proofs::Turns::many_end))]
-    pub(crate) fn types(
-        &mut self,
-        alloc: Global,
-        tables: &Tables,
-    ) -> Result<List<PType>, ReadFault>
+    pub(crate) fn types(&mut self, alloc: Global, tables: &Tables) -> Result<List<PType>, ReadFault>
         ensures { Gives (texts.types (environment tables.now) self.old.tokens.now) result self.new.tokens.now }
     {
         let mut types = List::new(alloc);

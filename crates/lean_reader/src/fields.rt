@@ -121,10 +121,7 @@ impl<'a> Reader<'a> {
 
 /// The fields with the names `f0`, `f1` and so on. The only error is want of memory.
 #[tactic(auto, using(crate::proofs::Numbering::numbered_last))]
-pub(crate) fn numbered_fields(
-    alloc: Global,
-    types: List<PTy>,
-) -> Result<List<(Name, PTy)>, NoMem>
+pub(crate) fn numbered_fields(alloc: Global, types: List<PTy>) -> Result<List<(Name, PTy)>, NoMem>
     ensures { IfOk result (λ fields. fields ≡ spec.numbered_fields 0 types) }
 {
     let mut types = types;

@@ -10,13 +10,13 @@ ghost use Rattle.lean_reader.specs.Types as spec;
 ghost use Rattle.lean_reader.specs.declared.frames.TypeFrame.{TypeFrame};
 
 use crate::ReadFault;
+use crate::bare::is_bare;
 use crate::cursor::Reader;
 use crate::frames::{TypeFrame, TypeStart};
 use crate::places::Places;
 use crate::tables::Tables;
 use crate::words::int_of;
 use aen_base::{List, Name, TypeId};
-use crate::bare::is_bare;
 use pure_ast::PTy;
 use std::alloc::Global;
 use text_meaning::Mark;
