@@ -13,7 +13,6 @@ use Rattle.lean_reader.specs.declared.outline.TypeHead.{TypeHead}
 use Rattle.lean_reader.specs.declared.outline.VariantHead.{VariantHead}
 use Rattle.lean_reader.specs.Calls.{definition_name_of}
 use Rattle.lean_reader.specs.Definitions.{kind_of}
-use Rattle.lean_reader.specs.Environment.{Environment}
 use Rattle.lean_reader.specs.Finding.{find, type_in, variant_in, constructor_in}
 use Rattle.lean_reader.specs.Naming.{same_kind, find_kind, definition_in, environment_of}
 use Rattle.lean_reader.specs.Outlines as o

@@ -1,8 +1,8 @@
 -- The heads of definitions fit exactly where their outline does.
-use Rattle.std.proofs.Common.{◌≡◌, refl, ap, sym, subst, ◌∙◌, ℕ, zero, suc, ◌<◌, ◌^◌, Bool, true, false, List, [], ◌∷◌, length, map, ◌⊎◌, inl, inr, arith}
+use Rattle.std.proofs.Common.{◌≡◌, refl, ap, sym, subst, ◌∙◌, ℕ, suc, ◌<◌, ◌^◌, Bool, true, false, List, [], ◌∷◌, length, map, ◌⊎◌, inl, inr, arith}
 use Rattle.std.specs.Prelude.{◌==◌, ◌&&◌, nat_lt, not, if◌then◌else◌}
 use Rattle.std.specs.List.{list_all}
-use Rattle.std.proofs.lemmas.Bool.{ltb-true, ltb-false, eqb-true, eqb-false, eq-eqb}
+use Rattle.std.proofs.lemmas.Bool.{ltb-true, eqb-true, eq-eqb}
 use Rattle.std.proofs.lemmas.Bool.Decides.{nat_tests}
 use Rattle.pure_ast.specs.declared.def.Def.{Def}
 use Rattle.pure_ast.specs.declared.def.DefKind.{DefKind}
@@ -11,13 +11,12 @@ use Rattle.pure_ast.specs.declared.def.Defs.{Defs}
 use Rattle.pure_ast.specs.declared.def.PType.{PType}
 use Rattle.text_meaning.specs.Lists.{Each, Differ}
 use Rattle.text_meaning.specs.Lookups.{Variant}
-use Rattle.text_meaning.specs.Ranges.{IsSmall}
 use Rattle.text_meaning.specs.WellFormed.{function_of, IsKind, AreInOrder, IsWellFormed}
 use Rattle.text_meaning.specs.WellFormedTypes.{AreNames, type_names, names_of}
 use Rattle.lean_reader.specs.Fitting as f
 use Rattle.lean_reader.specs.Naming.{same_kind}
 use Rattle.lean_reader.specs.Outlines.{outline_of, type_head, variant_head, definition_head}
-use Rattle.lean_reader.specs.Tests.{all_differ, are_names}
+use Rattle.lean_reader.specs.Tests.{are_names}
 use Rattle.lean_reader.proofs.Finding.{VariantsDiffer}
 use Rattle.lean_reader.proofs.Naming.{HeadsFit, heads_fit, kind_same, same_itself}
 use Rattle.lean_reader.proofs.Numbers.{and_left, and_right, and_true}
@@ -44,9 +43,9 @@ variants_are (v ∷ vs) = ap (λ ns. v.0 ∷ ns) (variants_are vs)
 variants_sound : (ts : List PType) → list_all f.variants_differ (map type_head ts) ≡ true → Each VariantsDiffer ts
 variants_sound [] h = tt
 variants_sound (t ∷ ts) h = (
-    subst Differ (variants_are t.variants) (differ_sound (f.names_of_variants (map variant_head t.variants)) (and_left _ _ h)),
-    variants_sound ts (and_right (f.variants_differ (type_head t)) _ h),
-  )
+  subst Differ (variants_are t.variants) (differ_sound (f.names_of_variants (map variant_head t.variants)) (and_left _ _ h)),
+  variants_sound ts (and_right (f.variants_differ (type_head t)) _ h),
+)
 
 variants_complete : (ts : List PType) → Each VariantsDiffer ts → list_all f.variants_differ (map type_head ts) ≡ true
 variants_complete [] h = refl
@@ -79,9 +78,9 @@ order_complete k count (d ∷ ds) (inr h) = rw (lt_not (function_of d.kind) k h.
 other_sound : (kd : DefKind) (ds : List Def) → f.is_other_kind kd (map definition_head ds) ≡ true → Each (λ k. kd ≡ k → ⊥) (map (λ (d : Def). d.kind) ds)
 other_sound kd [] h = tt
 other_sound kd (d ∷ ds) h = (
-    (λ e. let a : same_kind kd d.kind ≡ false = not_is (same_kind kd d.kind) (and_left _ _ h) in let b : same_kind kd d.kind ≡ true = subst (λ k. same_kind kd k ≡ true) e (same_itself kd) in let c : false ≡ true = sym a ∙ b in absurd cc),
-    other_sound kd ds (and_right (not (same_kind kd d.kind)) _ h),
-  )
+  (λ e. let a : same_kind kd d.kind ≡ false = not_is (same_kind kd d.kind) (and_left _ _ h) in let b : same_kind kd d.kind ≡ true = subst (λ k. same_kind kd k ≡ true) e (same_itself kd) in let c : false ≡ true = sym a ∙ b in absurd cc),
+  other_sound kd ds (and_right (not (same_kind kd d.kind)) _ h),
+)
 
 other_complete : (kd : DefKind) (ds : List Def) → Each (λ k. kd ≡ k → ⊥) (map (λ (d : Def). d.kind) ds) → f.is_other_kind kd (map definition_head ds) ≡ true
 other_complete kd [] h = refl
@@ -125,21 +124,24 @@ fits_sound d h =
     let defs = and_right (are_names d.names) _ rest in
     let later = and_right (f.are_in_order 0 (map definition_head d.defs) (length d.names)) _ defs in
     let names : AreNames (type_names d) = subst AreNames (names_are d.types) (names_sound (f.names_of_types (map type_head d.types)) (and_left _ _ types)) in
-    let functions : AreNames d.names = names_sound d.names (and_left (are_names d.names) _ rest) in
-    (record {
-      types = names.1;
-      variants = variants_sound d.types (and_right (are_names (f.names_of_types (map type_head d.types))) _ types);
-      functions = functions.1;
-      order = order_sound 0 (length d.names) d.defs (and_left (f.are_in_order 0 (map definition_head d.defs) (length d.names)) _ defs);
-      kinds = kinds_sound d.defs (and_left (f.kinds_differ (map definition_head d.defs)) _ later);
-      small = smalls_sound d.defs (and_right (f.kinds_differ (map definition_head d.defs)) _ later);
-    }, names, functions)
+    let functions : AreNames d.names = names_sound d.names (and_left (are_names d.names) _ rest) in (
+      record {
+        types = names.1;
+        variants = variants_sound d.types (and_right (are_names (f.names_of_types (map type_head d.types))) _ types);
+        functions = functions.1;
+        order = order_sound 0 (length d.names) d.defs (and_left (f.are_in_order 0 (map definition_head d.defs) (length d.names)) _ defs);
+        kinds = kinds_sound d.defs (and_left (f.kinds_differ (map definition_head d.defs)) _ later);
+        small = smalls_sound d.defs (and_right (f.kinds_differ (map definition_head d.defs)) _ later);
+      },
+      names,
+      functions,
+    )
 
 pub fits_complete : (d : Defs) → IsWellFormed d → f.fits (outline_of d) ≡ true
 unfolding f.fits
 fits_complete d g =
     let heads = heads_fit d g in
     and_true (f.types_fit (map type_head d.types)) _
-      (and_true _ _ (names_complete (f.names_of_types (map type_head d.types)) (subst AreNames (sym (names_are d.types)) g.types_named)) (variants_complete d.types heads.variants))
-      (and_true _ _ (names_complete d.names g.functions_named)
-      (and_true _ _ (order_complete 0 (length d.names) d.defs heads.order) (and_true _ _ (kinds_complete d.defs heads.kinds) (smalls_complete d.defs heads.small))))
+    (and_true _ _ (names_complete (f.names_of_types (map type_head d.types)) (subst AreNames (sym (names_are d.types)) g.types_named)) (variants_complete d.types heads.variants))
+    (and_true _ _ (names_complete d.names g.functions_named)
+    (and_true _ _ (order_complete 0 (length d.names) d.defs heads.order) (and_true _ _ (kinds_complete d.defs heads.kinds) (smalls_complete d.defs heads.small))))

@@ -44,3 +44,6 @@ pub mod Fits
 pub mod Signing
 pub mod Silence
 pub mod Skipping
+pub mod TypesOutlined
+pub mod DefinitionsOutlined
+pub mod Whole

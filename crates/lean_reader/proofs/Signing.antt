@@ -1,20 +1,15 @@
 -- The signs of tokens, and how many there are in the tokens of declarations.
-use Rattle.std.proofs.Common.{◌≡◌, refl, ap, sym, subst, ◌∙◌, ℕ, zero, suc, ◌+◌, ◌<◌, ◌≤◌, ◌^◌, Bool, true, false, List, [], ◌∷◌, ◌++◌, length, map, Option, Some, None, append_assoc, arith}
-use Rattle.std.specs.Prelude.{◌&&◌, ◌||◌, not, if◌then◌else◌, codes, is_some, bytes_eq}
+use Rattle.std.proofs.Common.{◌≡◌, refl, ap, sym, ◌∙◌, ℕ, suc, ◌+◌, ◌≤◌, ◌^◌, Bool, true, false, List, [], ◌∷◌, ◌++◌, length, map, Option, Some, None, append_assoc, arith}
+use Rattle.std.specs.Prelude.{◌||◌, not, if◌then◌else◌, codes, is_some, bytes_eq}
 use Rattle.std.specs.List.{list_all, flat_map}
-use Rattle.std.specs.Fmt.{decimal}
-use Rattle.std.proofs.lemmas.List.{map-append}
 use Rattle.aen_base.specs.declared.int_ty.IntTy.{IntTy}
 use Rattle.aen_base.specs.declared.int_ty.IntTy.TheVariants.{U8, U16, U32, U64, U128, Usize, I8, I16, I32, I64, I128, Isize}
 use Rattle.pure_ast.specs.declared.def.DefKind.{DefKind}
 use Rattle.pure_ast.specs.declared.def.DefKind.TheVariants as K
 use Rattle.pure_ast.specs.declared.def.Defs.{Defs}
-use Rattle.pure_ast.specs.declared.def.PType.{PType}
 use Rattle.pure_ast.specs.Types.{PTy, PTys, integer, boolean, unit, product, named, parameter, exit, no_ptys, more_ptys}
 use Rattle.text_meaning.specs.declared.mark.Mark.TheVariants as M
-use Rattle.text_meaning.specs.Lists.{Each}
-use Rattle.text_meaning.specs.Lookups.{Variant}
-use Rattle.text_meaning.specs.Names.{is_bare, is_variable, is_reserved}
+use Rattle.text_meaning.specs.Names.{is_bare, is_variable}
 use Rattle.text_meaning.specs.Ranges.{IsSmall}
 use Rattle.text_meaning.specs.Spelled as spelled
 use Rattle.text_meaning.specs.SpelledNames.{kind_tokens}
@@ -26,9 +21,9 @@ use Rattle.text_tokens.specs.declared.lexeme.LexemeKind.TheVariants.{Word, Marke
 use Rattle.text_tokens.specs.Stands.{Stands, AllStand}
 use Rattle.lean_reader.specs.declared.signs.Sign.{Sign}
 use Rattle.lean_reader.specs.declared.signs.Sign.TheVariants as S
-use Rattle.lean_reader.specs.Parser.{Tokens, tail}
+use Rattle.lean_reader.specs.Parser.{Tokens}
 use Rattle.lean_reader.specs.Signs as g
-use Rattle.lean_reader.specs.Single.{after_prefix, small_number}
+use Rattle.lean_reader.specs.Single.{after_prefix}
 use Rattle.lean_reader.proofs.Numbers.{prefix_complete, and_left, and_right, and_true}
 use Rattle.lean_reader.proofs.Heads.{not_same, no_variable}
 
@@ -89,11 +84,11 @@ count_stands c e (l ∷ ls) [] h = absurd h
 count_stands c e (l ∷ ls) (t ∷ ts) h = λ i. g.counted c e (stands_sign l.kind t h.0 i) (count_stands c e ls ts h.1 i)
 
 -- tokens that are no signs
-abbrev is_other : Sign → Bool
+abbrev pub is_other : Sign → Bool
 is_other S.Other = true
 is_other s = false
 
-other_is : (s : Sign) → is_other s ≡ true → s ≡ S.Other
+pub other_is : (s : Sign) → is_other s ≡ true → s ≡ S.Other
 other_is S.Structure h = absurd cc
 other_is S.Inductive h = absurd cc
 other_is S.Definition h = absurd cc
@@ -137,6 +132,7 @@ int_sign Isize = refl
 
 mutual
   unfolding g.word_sign
+
   pub type_no_signs : (d : Defs) (ns : List (List ℕ)) (t : PTy) → no_signs (type_tokens d ns t) ≡ true
   type_no_signs d ns (integer t) = int_sign t
   type_no_signs d ns boolean = refl

@@ -1,12 +1,11 @@
 -- No declaration begins within the tokens of a type or a definition.
-use Rattle.std.proofs.Common.{◌≡◌, refl, ap, sym, subst, ◌∙◌, ℕ, suc, Bool, true, false, List, [], ◌∷◌, ◌++◌, map, Option, Some, None}
+use Rattle.std.proofs.Common.{◌≡◌, refl, ℕ, Bool, true, false, List, [], ◌∷◌, ◌++◌, map, Option, Some, None}
 use Rattle.std.specs.Prelude.{◌&&◌, not, if◌then◌else◌, codes, is_some, bytes_eq, slice_get}
 use Rattle.std.specs.List.{list_all, flat_map}
 use Rattle.aen_base.specs.declared.int_ty.IntTy.{IntTy}
 use Rattle.aen_base.specs.declared.int_ty.IntTy.TheVariants.{U8, U16, U32, U64, U128, Usize, I8, I16, I32, I64, I128, Isize}
 use Rattle.aen_base.specs.declared.operators.BinOp.{BinOp}
 use Rattle.aen_base.specs.declared.operators.BinOp.TheVariants as B
-use Rattle.aen_base.specs.declared.operators.Builtin.{Builtin}
 use Rattle.aen_base.specs.declared.operators.Builtin.TheVariants.{BoxNew, Replace, Swap}
 use Rattle.aen_base.specs.declared.operators.CmpOp.{CmpOp}
 use Rattle.aen_base.specs.declared.operators.CmpOp.TheVariants as Q
@@ -28,7 +27,6 @@ use Rattle.pure_ast.specs.Code.{Code, Arms, bind, put, select, last, bind_select
 use Rattle.pure_ast.specs.Terms.{Term, Terms, var, literal, truth, tuple, built, no_terms, more_terms, terms}
 use Rattle.pure_ast.specs.Types.{PTy, PTys, integer, boolean, unit, product, named, parameter, exit, no_ptys, more_ptys}
 use Rattle.text_meaning.specs.declared.mark.Mark.TheVariants as M
-use Rattle.text_meaning.specs.Spelled as spelled
 use Rattle.text_meaning.specs.SpelledCode.{code_tokens, arms_tokens}
 use Rattle.text_meaning.specs.SpelledNames.{var_token, ctor_tokens, kind_tokens, def_name_tokens, callee_tokens, prim_tokens}
 use Rattle.text_meaning.specs.SpelledTerms.{truth_tokens, term_tokens, terms_tokens, comma_tokens, comma_variables, pat_tokens, comp_tokens}
@@ -37,7 +35,7 @@ use Rattle.text_meaning.specs.Tokens.{Token, word, id, number, mark}
 use Rattle.text_meaning.specs.Words.{int_word, arith_word, compare_word, bool_word}
 use Rattle.lean_reader.specs.declared.signs.Sign.TheVariants as S
 use Rattle.lean_reader.specs.Signs as g
-use Rattle.lean_reader.proofs.Numbers.{and_left, and_right, and_true}
+use Rattle.lean_reader.proofs.Numbers.{and_true}
 use Rattle.lean_reader.proofs.Signing.{token_sign, all_append}
 
 -- a token with which no declaration begins

@@ -130,7 +130,11 @@ fn kind_of(functions: &ByName<Name>, name: &DefinitionName) -> Option<DefKind>
 }
 
 /// The functions with one more, unless it is among them.
-fn with_function(alloc: Global, functions: ByName<Name>, function: &Name) -> Result<ByName<Name>, NoMem>
+fn with_function(
+    alloc: Global,
+    functions: ByName<Name>,
+    function: &Name,
+) -> Result<ByName<Name>, NoMem>
     ensures { IfOk result (λ fs. fs ≡ spec.with_function functions function.now) }
 {
     if functions.place_of(function).is_some() {
@@ -177,7 +181,12 @@ impl Heads {
     }
 
     /// With one more definition of this name.
-    fn with_named(self, alloc: Global, name: &DefinitionName, parameters: usize) -> Result<Heads, NoMem>
+    fn with_named(
+        self,
+        alloc: Global,
+        name: &DefinitionName,
+        parameters: usize,
+    ) -> Result<Heads, NoMem>
         ensures { IfOk result (λ h. h ≡ spec.with_functions self (spec.with_function self.functions name.now.function) name.now parameters) }
     {
         let Heads {
@@ -197,7 +206,12 @@ impl Heads {
     }
 
     /// With one more definition, if its name could be read.
-    fn with_definition(self, alloc: Global, name: Option<DefinitionName>, parameters: usize) -> Result<Heads, NoMem>
+    fn with_definition(
+        self,
+        alloc: Global,
+        name: Option<DefinitionName>,
+        parameters: usize,
+    ) -> Result<Heads, NoMem>
         ensures { IfOk result (λ h. h ≡ spec.with_definition self name parameters) }
     {
         match name {
