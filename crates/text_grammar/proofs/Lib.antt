@@ -10,3 +10,5 @@ pub mod Stepping
 pub mod Makes
 pub mod MakesWords
 pub mod MakesTypes
+pub mod MakesTerms
+pub mod MakesCode

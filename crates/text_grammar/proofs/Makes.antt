@@ -1,5 +1,5 @@
 -- What symbols derive, told by the tokens that lexemes stand for.
-use Rattle.std.proofs.Common.{◌≡◌, refl, sym, ap, ◌∙◌, subst, inl, inr, ◌⊎◌, ℕ, zero, suc, ◌<◌, Bool, true, false, List, [], ◌∷◌, ◌++◌, append_assoc, Option, Some, None}
+use Rattle.std.proofs.Common.{◌≡◌, refl, sym, ap, ◌∙◌, subst, inl, inr, ◌⊎◌, ℕ, zero, suc, ◌<◌, ℤ, Bool, true, false, List, [], ◌∷◌, ◌++◌, append_assoc, Option, Some, None}
 use Rattle.std.specs.Prelude.{◌&&◌, slice_get, bytes_eq, pos, codes}
 use Rattle.text_meaning.specs.declared.mark.Mark.{Mark}
 use Rattle.text_meaning.specs.Tokens.{Token, word, id, number, mark}
@@ -38,7 +38,7 @@ end_derives (l ∷ ls) h = absurd h
 pub end : Makes [] []
 end = record { derives = end_derives }
 
-place : (ps : List (List Symbol)) (k : ℕ) (p : List Symbol) → slice_get ps k ≡ Some p → IsOneOf p ps
+pub place : (ps : List (List Symbol)) (k : ℕ) (p : List Symbol) → slice_get ps k ≡ Some p → IsOneOf p ps
 place [] k p h = absurd cc
 place (q ∷ ps) zero p h = inl cc
 place (q ∷ ps) (suc k) p h = inr (place ps k p h)
@@ -86,3 +86,17 @@ name_good n (L.Punct m) e = absurd e
 
 pub is_name : {n : List ℕ} → Matches T.Name (id n)
 is_name {n} = record { good = name_good n }
+
+number_good : (z : ℤ) (kind : LexemeKind) → Stands kind (number z) → passes T.Number kind ≡ true
+number_good z (L.Word w) e = absurd e
+number_good z (L.Marked k) e = absurd e
+number_good z (L.Number s) e = refl
+number_good z (L.Punct m) e = absurd e
+
+pub is_number : {z : ℤ} → Matches T.Number (number z)
+is_number {z} = record { good = number_good z }
+
+-- the same tokens first
+pub token_inside : (t : Terminal) (s u : List Symbol) → ((ls : Tokens) → Derives s ls → Derives u ls) → (ls : Tokens) → Derives (S.Token t ∷ s) ls → Derives (S.Token t ∷ u) ls
+token_inside t s u g [] d = elim d [ ]
+token_inside t s u g (l ∷ ls) (token h d) = token h (g ls d)

@@ -1,11 +1,11 @@
 -- Words with numbers, and those of types and operators, as tokens of the grammar.
 use Rattle.std.proofs.Common.{◌≡◌, refl, sym, ap, ◌∙◌, ℕ, ◌+◌, ◌^◌, ◌<◌, ◌≤◌, lit≤, arith, Bool, true, false, List, [], ◌∷◌, ◌++◌, codes}
-use Rattle.std.specs.Prelude.{◌&&◌, pos}
+use Rattle.std.specs.Prelude.{◌&&◌, pos, ℤ, bytes_eq}
 use Rattle.std.specs.List.{list_all}
 use Rattle.std.specs.Char.{is_ascii_digit, digit_value}
-use Rattle.std.specs.Fmt.{decimal}
+use Rattle.std.specs.Fmt.{decimal, signed_decimal}
 use Rattle.std.specs.Str.Parse.{AllDigits, IsNumeral}
-use Rattle.std.proofs.lemmas.Fmt.{decimal_is_IsNumeral_wide}
+use Rattle.std.proofs.lemmas.Fmt.{decimal_is_IsNumeral_wide, decimal_digit}
 use Rattle.std.proofs.lemmas.Bool.Decides.{nat_tests}
 use Rattle.aen_base.specs.declared.int_ty.IntTy.{IntTy}
 use Rattle.aen_base.specs.declared.int_ty.IntTy.TheVariants.{U8, U16, U32, U64, U128, Usize, I8, I16, I32, I64, I128, Isize}
@@ -23,8 +23,10 @@ use Rattle.text_meaning.specs.Words.{int_word, arith_word, compare_word, bool_wo
 use Rattle.text_tokens.specs.declared.lexeme.LexemeKind.{LexemeKind}
 use Rattle.text_tokens.specs.declared.lexeme.LexemeKind.TheVariants as L
 use Rattle.text_grammar.specs.declared.symbol.Terminal.TheVariants as T
-use Rattle.text_grammar.specs.Tests.{meets, test_of}
+use Rattle.text_grammar.specs.Tests.{meets, test_of, passes}
 use Rattle.text_grammar.proofs.Makes.{Matches, is_word}
+use Rattle.text_tokens.specs.Stands.{Stands}
+use Rattle.text_grammar.specs.declared.symbol.Terminal.{Terminal}
 
 digit_class : (c : ℕ) → digit_value c < 10 → is_ascii_digit c ≡ true
 digit_class c h = grind (arith, nat_tests)
@@ -55,6 +57,24 @@ is_loop {k} h = is_word (small_digits k h)
 
 pub is_back : {k : ℕ} → IsSmall k → Matches T.Back (word (back_text k))
 is_back {k} h = is_word (small_digits k h)
+
+pub zero_digit : decimal 0 ≡ codes "0"
+zero_digit = decimal_digit 0 (omega arith)
+
+pub one_digit : decimal 1 ≡ codes "1"
+one_digit = decimal_digit 1 (omega arith)
+
+digits_good : (t : Terminal) (d : List ℕ) (z : ℤ) → signed_decimal z ≡ d → meets (test_of t) (L.Number d) ≡ true → (kind : LexemeKind) → Stands kind (number z) → passes t kind ≡ true
+digits_good t d z g h (L.Word w) e = absurd e
+digits_good t d z g h (L.Marked n) e = absurd e
+digits_good t d z g h (L.Number s) e = ap (λ (s : List ℕ). meets (test_of t) (L.Number s)) (e ∙ g) ∙ h
+digits_good t d z g h (L.Punct m) e = absurd e
+
+pub is_zero : Matches T.Zero (number (pos 0))
+is_zero = record { good = digits_good T.Zero (codes "0") (pos 0) zero_digit refl }
+
+pub is_one : Matches T.One (number (pos 1))
+is_one = record { good = digits_good T.One (codes "1") (pos 1) one_digit refl }
 
 int_good : (t : IntTy) → meets (test_of T.Int) (L.Word (int_word t)) ≡ true
 int_good U8 = refl
