@@ -7,3 +7,8 @@ pub mod Endings
 pub mod Exact
 pub mod Rules
 pub mod Stepping
+pub mod Makes
+pub mod MakesWords
+pub mod MakesTypes
+pub mod MakesTerms
+pub mod MakesCode

@@ -37,7 +37,7 @@ pub of_right : {A : Type 0} (x : A) (xs ys : List A) → IsOneOf x ys → IsOneO
 of_right x [] ys h = h
 of_right x (z ∷ xs) ys h = inr (of_right x xs ys h)
 
-of_append : {A : Type 0} (x : A) (xs ys : List A) → IsOneOf x (xs ++ ys) → IsOneOf x xs ⊎ IsOneOf x ys
+pub of_append : {A : Type 0} (x : A) (xs ys : List A) → IsOneOf x (xs ++ ys) → IsOneOf x xs ⊎ IsOneOf x ys
 of_append x [] ys h = inr h
 of_append x (z ∷ xs) ys (inl e) = inl (inl e)
 of_append x (z ∷ xs) ys (inr h) = elim (of_append x xs ys h) [ inl a ↦ inl (inr a) | inr b ↦ inr b ]
