@@ -12,6 +12,7 @@ mod terms;
 #[cfg(test)]
 mod tests;
 mod types;
+mod values;
 mod words;
 
 ghost use Rattle.std.specs.Prelude.{◌≡◌, ◌++◌, IfOk, OnOk, string_bytes};
@@ -21,9 +22,11 @@ ghost use Rattle.text_meaning.specs.ShownLemmas.{shown_lemmas};
 ghost use Rattle.text_meaning.specs.WellFormed.{IsWellFormed};
 
 use aen_base::{NoMem, Text};
+pub use bare::is_bare;
 use pure_ast::Defs;
 use put::put;
 use std::alloc::Global;
+pub use values::print_value;
 
 /// The text of the definitions, in time linear in its length. The text of well-formed definitions
 /// reads as these definitions. The only error is want of memory.

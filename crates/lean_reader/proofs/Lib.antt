@@ -26,3 +26,4 @@ pub mod Definitions
 pub mod Texts
 pub mod Finding
 pub mod Naming
+pub mod Pieces

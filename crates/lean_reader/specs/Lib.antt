@@ -15,3 +15,5 @@ pub mod Finding
 pub mod Naming
 pub mod Laws
 pub mod Outlines
+pub mod NamedDefinitions
+pub mod Pieces

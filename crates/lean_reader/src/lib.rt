@@ -5,9 +5,11 @@ mod cursor;
 mod fault;
 mod frames;
 mod laws;
+mod naming_words;
 mod outline;
 mod spelled;
 mod words;
 
 pub(crate) use fault::ReadFault;
 pub use laws::texts_are_read_whole;
+pub use naming_words::def_named;
