@@ -27,3 +27,5 @@ pub mod Texts
 pub mod Finding
 pub mod Naming
 pub mod Pieces
+pub mod Parts
+pub mod PuttingIn

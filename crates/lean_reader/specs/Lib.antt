@@ -17,3 +17,4 @@ pub mod Laws
 pub mod Outlines
 pub mod NamedDefinitions
 pub mod Pieces
+pub mod Typing
