@@ -1,6 +1,9 @@
 pub mod Standing
 pub mod Singles
+pub mod Bracketing
 pub mod Numbers
+pub mod Prefixes
+pub mod Spelling
 pub mod Heads
 pub mod Sequences
 pub mod Agreement
@@ -29,3 +32,5 @@ pub mod Naming
 pub mod Pieces
 pub mod Parts
 pub mod PuttingIn
+pub mod Placing
+pub mod Keys

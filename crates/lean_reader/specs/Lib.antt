@@ -1,10 +1,13 @@
 pub mod Parser
+pub mod Digits
 pub mod Single
 pub mod Environment
 pub mod Terms
+pub mod TermTurns
 pub mod Types
 pub mod Many
 pub mod Calls
+pub mod CallNames
 pub mod Primitives
 pub mod Codes
 pub mod Tests
@@ -18,3 +21,5 @@ pub mod Outlines
 pub mod NamedDefinitions
 pub mod Pieces
 pub mod Typing
+pub mod Places
+pub mod Kinds

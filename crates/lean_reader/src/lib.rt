@@ -1,17 +1,30 @@
 //! Reads the texts of the printed language (docs/TEXT.md, "Reading").
 #![tactic(auto)]
 
+mod atoms;
+mod bare;
+mod beginnings;
+mod by_name;
+mod calls;
+mod closed_values;
+mod constructors;
 mod cursor;
+mod digits;
 mod fault;
 mod frames;
-mod closed_values;
+mod kinds;
 mod laws;
+mod named;
+mod names;
 mod naming_words;
 mod outline;
+mod primitives;
 mod putting_in;
 mod spelled;
+mod tables;
 mod typing;
 mod values;
+mod variables;
 mod words;
 
 pub(crate) use fault::ReadFault;

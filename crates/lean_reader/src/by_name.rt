@@ -1,0 +1,69 @@
+//! Lists of things that are found by their names.
+
+ghost use Rattle.std.specs.Prelude.{◌≡◌, map, IfOk};
+ghost use Rattle.std.specs.Option.{option_map};
+ghost use Rattle.lean_reader.specs.Finding as finding;
+ghost use Rattle.lean_reader.specs.Tests as tests;
+
+use crate::named::{Named, places_of};
+use aen_base::{List, Name, NoMem, at};
+use indexmap::IndexMap;
+use std::alloc::Global;
+use std::marker::Model;
+
+/// A list whose items are found by their names: contracts see the list.
+#[derive(Drop)]
+pub(crate) struct ByName<T: Named> {
+    items: List<T>,
+    /// The place of the first item of each name.
+    table: IndexMap<Name, u32>,
+}
+
+impl<T: Named> Model for ByName<T> {
+    ghost use Rattle.std.specs.Prelude.{◌≡◌, List, ℕ, map, bytes_eq};
+    ghost use Rattle.std.specs.Coded.{coded_list};
+    ghost use Rattle.indexmap.specs.IndexMap.{get};
+    ghost use Rattle.lean_reader.specs.Places.{place_by};
+
+    ghost Value = { List T };
+
+    ghost coded = { coded_list T.code };
+
+    ghost view = { λ s. s.items };
+
+    ghost invariant = { λ s. (w : List ℕ) → get bytes_eq s.table w ≡ place_by bytes_eq (map T.name_of s.items) w };
+}
+
+impl<T: Named> ByName<T> {
+    /// The list with its table. The only error is want of memory.
+    pub(crate) fn new(alloc: Global, items: List<T>) -> Result<ByName<T>, NoMem>
+        where T: Drop
+        ensures { IfOk result (λ s. s ≡ items) }
+    {
+        let table = places_of(alloc, items.as_slice())?;
+        Ok(ByName { items, table })
+    }
+
+    /// The items in order.
+    pub(crate) fn as_slice(&self) -> &[T]
+        ensures { result.now ≡ self.now }
+    {
+        self.items.as_slice()
+    }
+
+    /// The place of the first item of this name.
+    pub(crate) fn place_of(&self, name: &Name) -> Option<u32>
+        ensures { result ≡ tests.place_of (map T.name_of self.now) name.now }
+    {
+        self.table.get(name).copied()
+    }
+
+    /// The first item of this name, with its place.
+    pub(crate) fn find(&self, name: &Name) -> Option<(u32, &T)>
+        ensures { option_map (λ p. (p.0, p.1.now)) result ≡ finding.find T.name_of self.now name.now }
+    {
+        let place = self.place_of(name)?;
+        let item = at(self.items.as_slice(), place as usize)?;
+        Some((place, item))
+    }
+}

@@ -1,0 +1,52 @@
+//! Reading a name.
+
+ghost use Rattle.std.specs.Prelude.{◌≡◌};
+ghost use Rattle.std.specs.Option.{option_copied};
+ghost use Rattle.lean_reader.specs.Single as spec;
+ghost use Rattle.lean_reader.specs.Parser.{Gives};
+
+use crate::ReadFault;
+use crate::bare::is_bare;
+use crate::cursor::Reader;
+use aen_base::Name;
+use std::alloc::Global;
+use text_tokens::LexemeKind;
+
+impl<'a> Reader<'a> {
+    /// Reads a name, bare or between marks.
+    #[tactic(auto, unfolding(crate::specs::Single::name))]
+    pub(crate) fn name(&mut self, alloc: Global) -> Result<Name, ReadFault>
+        ensures { Gives (spec.name self.old.tokens.now) result self.new.tokens.now }
+    {
+        match self.tokens {
+            [] => Err(ReadFault::Syntax),
+            [first, rest @ ..] => match name_of(&first.kind) {
+                None => Err(ReadFault::Syntax),
+                Some(name) => {
+                    let name = name.try_clone(alloc)?;
+                    self.tokens = rest;
+                    Ok(name)
+                }
+            },
+        }
+    }
+}
+
+/// The name that a lexeme is.
+#[tactic(auto, unfolding(crate::specs::Single::id_of))]
+fn name_of(kind: &LexemeKind) -> Option<&Name>
+    ensures { option_copied result ≡ spec.id_of kind.now }
+{
+    match kind {
+        LexemeKind::Word(word) => {
+            if is_bare(word.as_str()) {
+                Some(word)
+            } else {
+                None
+            }
+        }
+        LexemeKind::Marked(name) => Some(name),
+        LexemeKind::Number(_) => None,
+        LexemeKind::Punct(_) => None,
+    }
+}
