@@ -1,10 +1,9 @@
 -- Definitions are found by their keys as by their kinds.
-use Rattle.std.proofs.Common.{◌≡◌, ℕ, suc, ◌==◌, ◌&&◌, Bool, true, false, if◌then◌else◌, List, [], ◌∷◌, Option, Some, None, refl, sym, ap, ◌∙◌}
+use Rattle.std.proofs.Common.{◌≡◌, ℕ, suc, ◌==◌, ◌&&◌, Bool, true, false, if◌then◌else◌, List, [], ◌∷◌, Option, Some, None, refl, ap, ◌∙◌}
 use Rattle.std.specs.Option.{option_map, option_and_then}
 use Rattle.pure_ast.specs.declared.def.DefKind.{DefKind}
 use Rattle.pure_ast.specs.declared.def.DefKind.TheVariants as K
-use Rattle.lean_reader.specs.Calls.{definition_name_of}
-use Rattle.lean_reader.specs.Definitions.{kind_by, kind_of}
+use Rattle.lean_reader.specs.Definitions.{kind_by}
 use Rattle.lean_reader.specs.Kinds.{key, key_of, head_of_key}
 use Rattle.lean_reader.specs.Naming.{same_kind}
 use Rattle.lean_reader.specs.Outlines.{head_of_kind, definition_of}

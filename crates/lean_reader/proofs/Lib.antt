@@ -34,3 +34,5 @@ pub mod Parts
 pub mod PuttingIn
 pub mod Placing
 pub mod Keys
+pub mod Apart
+pub mod Identifying

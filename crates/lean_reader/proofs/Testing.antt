@@ -69,11 +69,11 @@ apart_complete : (n : List ℕ) (ms : List (List ℕ)) → Each (λ m. n ≡ m �
 apart_complete n [] h = refl
 apart_complete n (m ∷ ms) h = and_true _ _ (not_false (bytes_eq n m) (bytes_differ n m h.0)) (apart_complete n ms h.1)
 
-differ_sound : (ns : List (List ℕ)) → t.all_differ ns ≡ true → Differ ns
+pub differ_sound : (ns : List (List ℕ)) → t.all_differ ns ≡ true → Differ ns
 differ_sound [] h = tt
 differ_sound (n ∷ ns) h = (apart_sound n ns (and_left _ _ h), differ_sound ns (and_right (t.is_apart n ns) _ h))
 
-differ_complete : (ns : List (List ℕ)) → Differ ns → t.all_differ ns ≡ true
+pub differ_complete : (ns : List (List ℕ)) → Differ ns → t.all_differ ns ≡ true
 differ_complete [] h = refl
 differ_complete (n ∷ ns) h = and_true _ _ (apart_complete n ns h.0) (differ_complete ns h.1)
 

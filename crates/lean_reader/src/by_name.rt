@@ -37,7 +37,8 @@ impl<T: Named> Model for ByName<T> {
 impl<T: Named> ByName<T> {
     /// The list with its table. The only error is want of memory.
     pub(crate) fn new(alloc: Global, items: List<T>) -> Result<ByName<T>, NoMem>
-        where T: Drop
+    where
+        T: Drop,
         ensures { IfOk result (λ s. s ≡ items) }
     {
         let table = places_of(alloc, items.as_slice())?;

@@ -27,10 +27,26 @@ impl KindKey {
         ensures { result ≡ spec.key_of kind.now }
     {
         match kind {
-            DefKind::Forward(f) => KindKey { function: f.0, turn: None, back: None },
-            DefKind::Back(f, r) => KindKey { function: f.0, turn: None, back: Some(r.0) },
-            DefKind::Loop(f, k) => KindKey { function: f.0, turn: Some(k.0), back: None },
-            DefKind::LoopBack(f, k, c) => KindKey { function: f.0, turn: Some(k.0), back: Some(*c) },
+            DefKind::Forward(f) => KindKey {
+                function: f.0,
+                turn: None,
+                back: None,
+            },
+            DefKind::Back(f, r) => KindKey {
+                function: f.0,
+                turn: None,
+                back: Some(r.0),
+            },
+            DefKind::Loop(f, k) => KindKey {
+                function: f.0,
+                turn: Some(k.0),
+                back: None,
+            },
+            DefKind::LoopBack(f, k, c) => KindKey {
+                function: f.0,
+                turn: Some(k.0),
+                back: Some(*c),
+            },
         }
     }
 }

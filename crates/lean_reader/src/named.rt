@@ -3,7 +3,8 @@
 ghost use Rattle.std.specs.Prelude.{◌≡◌, ℕ, List, Some, None, if◌then◌else◌, map, bytes_eq, IfOk, OnOk};
 ghost use Rattle.std.specs.Option.{option_or};
 ghost use Rattle.indexmap.specs.IndexMap.{get};
-ghost use Rattle.lean_reader.specs.Places.{place_by};
+ghost use Rattle.lean_reader.specs.Places.{place_by, is_place};
+ghost use Rattle.lean_reader.specs.Tests as tests;
 
 use crate::outline::{TypeHead, VariantHead};
 use aen_base::{Name, NoMem};
@@ -37,7 +38,12 @@ impl Named for VariantHead {
 }
 
 /// Gives a name its place, where it has none yet.
-fn enter(alloc: Global, table: &mut IndexMap<Name, u32>, name: &Name, place: u32) -> Result<(), NoMem>
+fn enter(
+    alloc: Global,
+    table: &mut IndexMap<Name, u32>,
+    name: &Name,
+    place: u32,
+) -> Result<(), NoMem>
     ensures { OnOk result ((w : List ℕ) → get bytes_eq table.new w ≡ option_or (get bytes_eq table.old w) (if bytes_eq name.now w then Some place else None)) }
 {
     if table.get(name).is_none() {
@@ -59,4 +65,27 @@ pub(crate) fn places_of<T: Named>(alloc: Global, items: &[T]) -> Result<IndexMap
         enter(alloc, &mut table, items[place].name(), number)?;
     }
     Ok(table)
+}
+
+/// Whether this is the place of a name.
+fn stands_at(table: &IndexMap<Name, u32>, name: &Name, place: usize) -> bool
+    ensures { result ≡ is_place (get bytes_eq table.now name.now) place }
+{
+    match table.get(name) {
+        None => false,
+        Some(first) => *first as usize == place,
+    }
+}
+
+/// Whether all names differ, by the table of their places: each then stands in its own place.
+pub(crate) fn all_differ<T: Named>(table: &IndexMap<Name, u32>, items: &[T]) -> bool
+    requires { (w : List ℕ) → get bytes_eq table.now w ≡ place_by bytes_eq (map T.name_of items.now) w }
+    ensures { result ≡ tests.all_differ (map T.name_of items.now) }
+{
+    for place in 0..items.len() {
+        if !stands_at(table, items[place].name(), place) {
+            return false;
+        }
+    }
+    true
 }

@@ -145,10 +145,19 @@ impl Tables {
 
     /// The first definition of this function, loop, and region or class, with its number of parameters.
     #[tactic(auto, using(crate::proofs::Keys::no_function))]
-    pub(crate) fn definition_of(&self, function: &Name, turn: Option<u32>, back: Option<u32>) -> Option<(u32, usize)>
+    pub(crate) fn definition_of(
+        &self,
+        function: &Name,
+        turn: Option<u32>,
+        back: Option<u32>,
+    ) -> Option<(u32, usize)>
         ensures { result ≡ outlines.definition_of self.now function.now turn back }
     {
         let function = self.function_of(function)?;
-        self.definitions.find(KindKey { function, turn, back })
+        self.definitions.find(KindKey {
+            function,
+            turn,
+            back,
+        })
     }
 }

@@ -88,7 +88,7 @@ fn all_continue(characters: &[char]) -> bool
 }
 
 /// Whether characters are an identifier; `_` alone is none.
-pub(crate) fn is_identifier(characters: &[char]) -> bool
+pub fn is_identifier(characters: &[char]) -> bool
     ensures { result ≡ spec.is_identifier characters.now }
 {
     match characters {

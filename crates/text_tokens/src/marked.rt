@@ -35,7 +35,7 @@ fn text_of(alloc: Global, characters: &[char]) -> Result<String, NoMem>
 }
 
 /// The characters of a text. The only error is want of memory.
-fn characters_of(alloc: Global, text: &str) -> Result<Vec<char>, NoMem>
+pub fn characters_of(alloc: Global, text: &str) -> Result<Vec<char>, NoMem>
     ensures { IfOk result (λ v. v.items ≡ chars text.now) }
 {
     let characters: Vec<char> = text.chars().collect(alloc)?;
@@ -43,7 +43,7 @@ fn characters_of(alloc: Global, text: &str) -> Result<Vec<char>, NoMem>
 }
 
 /// Characters in normal form. The only error is want of memory.
-fn normal_of(alloc: Global, characters: &[char]) -> Result<Vec<char>, NoMem>
+pub fn normal_of(alloc: Global, characters: &[char]) -> Result<Vec<char>, NoMem>
     ensures { IfOk result (λ v. v.items ≡ nfc characters.now) }
 {
     let mut normal = Vec::new(alloc);

@@ -1,4 +1,4 @@
-use Rattle.std.proofs.Common.{◌≡◌, ap, sym, ◌∙◌, Option, Some, None, slice_get}
+use Rattle.std.proofs.Common.{◌≡◌, ap, sym, ◌∙◌, Some, None, slice_get}
 use Rattle.lean_reader.proofs.Placing.{found_none, found_some}
 use Rattle.lean_reader.proofs.by_name.ByName.find.Goals as goal
 

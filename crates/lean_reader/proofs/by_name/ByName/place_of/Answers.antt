@@ -1,4 +1,4 @@
-use Rattle.std.proofs.Common.{◌≡◌, ap, map, ◌∙◌}
+use Rattle.std.proofs.Common.{ap, map, ◌∙◌}
 use Rattle.lean_reader.specs.Tests.{place_of}
 use Rattle.lean_reader.proofs.Placing.{place_of_names}
 use Rattle.lean_reader.proofs.by_name.ByName.place_of.Goals as goal
