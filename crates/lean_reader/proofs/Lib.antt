@@ -32,6 +32,10 @@ pub mod Naming
 pub mod Pieces
 pub mod Parts
 pub mod PuttingIn
+pub mod Heading
+pub mod TypeTurns
+pub mod Turns
+pub mod Numbering
 pub mod Placing
 pub mod Keys
 pub mod Apart
