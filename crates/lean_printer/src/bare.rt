@@ -6,7 +6,7 @@ ghost use Rattle.text_meaning.specs.Names as spec;
 ghost use Rattle.text_meaning.specs.Words as words;
 
 /// Whether a name is ASCII letters, digits and `_`, no word of the text and no `v` with digits.
-pub fn is_bare(name: &str) -> bool
+pub(crate) fn is_bare(name: &str) -> bool
     ensures { result ≡ spec.is_bare name.now }
 {
     let bytes = name.as_bytes();

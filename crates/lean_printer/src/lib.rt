@@ -22,7 +22,6 @@ ghost use Rattle.text_meaning.specs.ShownLemmas.{shown_lemmas};
 ghost use Rattle.text_meaning.specs.WellFormed.{IsWellFormed};
 
 use aen_base::{NoMem, Text};
-pub use bare::is_bare;
 use pure_ast::Defs;
 use put::put;
 use std::alloc::Global;

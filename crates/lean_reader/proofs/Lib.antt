@@ -32,6 +32,8 @@ pub mod Naming
 pub mod Pieces
 pub mod Parts
 pub mod PuttingIn
+pub mod Outlining
+pub mod Typed
 pub mod Heading
 pub mod TypeTurns
 pub mod Turns

@@ -21,6 +21,7 @@ pub mod Outlines
 pub mod NamedDefinitions
 pub mod Pieces
 pub mod Typing
+pub mod WordReading
 pub mod Numerals
 pub mod TypeTurns
 pub mod Places

@@ -20,6 +20,7 @@ mod names;
 mod naming_words;
 mod numerals;
 mod outline;
+mod outlining;
 mod places;
 mod primitives;
 mod putting_in;
@@ -33,6 +34,7 @@ mod types;
 mod typing;
 mod values;
 mod variables;
+mod word_reading;
 mod words;
 
 pub(crate) use fault::ReadFault;

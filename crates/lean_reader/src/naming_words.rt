@@ -11,7 +11,7 @@ ghost use Rattle.lean_reader.specs.Pieces as spec;
 
 use aen_base::{DefId, FnId, at};
 use itoa::Buffer;
-use lean_printer::is_bare;
+use crate::bare::is_bare;
 use pure_ast::{DefKind, Defs};
 
 /// The first definition whose name is printed as these bytes; None exactly where no definition that
