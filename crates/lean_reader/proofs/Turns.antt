@@ -1,5 +1,5 @@
 -- A turn of the loops that read things one after another, as long as one begins.
-use Rattle.std.proofs.Common.{◌≡◌, ℕ, suc, ◌+◌, ◌-◌, ◌<◌, Bool, true, false, if◌then◌else◌, List, [], ◌∷◌, ◌++◌, Some, refl, arith}
+use Rattle.std.proofs.Common.{◌≡◌, ℕ, suc, ◌+◌, ◌-◌, ◌<◌, Bool, if◌then◌else◌, List, [], ◌∷◌, ◌++◌, Some, refl, arith}
 use Rattle.lean_reader.specs.Many.{many}
 use Rattle.lean_reader.specs.Parser.{Tokens, Parser, and_then}
 

@@ -1,5 +1,5 @@
 -- What a turn of the reader of types leaves, by whether the newest bracket was just opened.
-use Rattle.std.proofs.Common.{◌≡◌, ℕ, length, ◌++◌, reverse, suc, ◌+◌, ◌-◌, ◌<◌, if◌then◌else◌, Bool, true, false, List, [], ◌∷◌, Some, None, refl, arith}
+use Rattle.std.proofs.Common.{◌≡◌, ℕ, length, ◌++◌, reverse, suc, ◌+◌, ◌-◌, ◌<◌, if◌then◌else◌, List, [], ◌∷◌, None, refl, arith}
 use Rattle.aen_base.specs.declared.ids.TypeId.{TypeId}
 use Rattle.text_meaning.specs.declared.mark.Mark.TheVariants.{Times}
 use Rattle.lean_reader.specs.declared.frames.TypeFrame.{TypeFrame}

@@ -1,6 +1,5 @@
 -- What a turn of the reader of atoms leaves: its stack has the newest bracket last.
 use Rattle.std.specs.Prelude.{◌≡◌, List, ◌∷◌, reverse, Result, Ok, Err}
-use Rattle.pure_ast.specs.Terms.{Term}
 use Rattle.lean_reader.specs.declared.atoms.Closing.{Closing}
 use Rattle.lean_reader.specs.declared.atoms.Closing.TheVariants.{Whole, Kept}
 use Rattle.lean_reader.specs.declared.atoms.TermTurn.{TermTurn}

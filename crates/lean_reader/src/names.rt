@@ -1,6 +1,6 @@
 //! Reading a name.
 
-ghost use Rattle.std.specs.Prelude.{◌≡◌};
+ghost use Rattle.std.specs.Prelude.{◌≡◌, is_some};
 ghost use Rattle.std.specs.Option.{option_copied};
 ghost use Rattle.lean_reader.specs.Single as spec;
 ghost use Rattle.lean_reader.specs.Parser.{Gives};
@@ -30,11 +30,22 @@ impl<'a> Reader<'a> {
             },
         }
     }
+
+    /// Whether the next lexeme is a name.
+    #[tactic(auto, unfolding(crate::specs::Single::name))]
+    pub(crate) fn starts_name(&self) -> bool
+        ensures { result ≡ is_some (spec.name self.now.tokens.now) }
+    {
+        match self.tokens {
+            [] => false,
+            [first, ..] => name_of(&first.kind).is_some(),
+        }
+    }
 }
 
 /// The name that a lexeme is.
 #[tactic(auto, unfolding(crate::specs::Single::id_of))]
-fn name_of(kind: &LexemeKind) -> Option<&Name>
+pub(crate) fn name_of(kind: &LexemeKind) -> Option<&Name>
     ensures { option_copied result ≡ spec.id_of kind.now }
 {
     match kind {

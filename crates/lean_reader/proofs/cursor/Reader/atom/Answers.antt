@@ -1,5 +1,5 @@
 -- One turn fewer is left.
-use Rattle.std.proofs.Common.{◌≡◌, sym, ◌∙◌, reverse}
+use Rattle.std.proofs.Common.{sym, ◌∙◌, reverse}
 use Rattle.lean_reader.specs.Outlines.{environment}
 use Rattle.lean_reader.proofs.Bracketing.{one_more, went_on}
 use Rattle.lean_reader.proofs.cursor.Reader.atom.Goals as goal

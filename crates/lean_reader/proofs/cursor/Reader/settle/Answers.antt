@@ -1,5 +1,5 @@
 -- Each bracket is closed by what stands after the atom in it.
-use Rattle.std.proofs.Common.{◌≡◌, ◌∙◌, reverse}
+use Rattle.std.proofs.Common.{◌∙◌, reverse}
 use Rattle.lean_reader.proofs.Bracketing.{all_closed, taken, whole, kept, refused, same_turn}
 use Rattle.lean_reader.proofs.cursor.Reader.settle.Goals as goal
 
