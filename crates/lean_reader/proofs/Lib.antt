@@ -2,6 +2,7 @@ pub mod Standing
 pub mod Singles
 pub mod Bracketing
 pub mod Repetition
+pub mod Nesting
 pub mod Numbers
 pub mod Prefixes
 pub mod Spelling

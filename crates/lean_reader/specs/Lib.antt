@@ -10,6 +10,7 @@ pub mod Calls
 pub mod CallNames
 pub mod Primitives
 pub mod Codes
+pub mod CodeTurns
 pub mod Tests
 pub mod Declarations
 pub mod Definitions

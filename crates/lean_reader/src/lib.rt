@@ -4,6 +4,7 @@
 mod atoms;
 mod bare;
 mod beginnings;
+mod bindings;
 mod by_name;
 mod calls;
 mod closed_values;
