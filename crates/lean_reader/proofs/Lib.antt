@@ -34,8 +34,10 @@ pub mod Naming
 pub mod Pieces
 pub mod Parts
 pub mod PuttingIn
-pub mod Outlining
+pub mod OutlineNames
 pub mod Typed
+pub mod ValueReading
+pub mod ArgumentLists
 pub mod Heading
 pub mod TypeTurns
 pub mod Turns

@@ -25,7 +25,7 @@ integer_sound (parameter k) b h = absurd cc
 integer_sound (exit x y) b h = absurd cc
 
 integer_itself : (b : IntTy) → is_integer (integer b) b ≡ true
-integer_itself b = true_same the_type tt b b refl
+integer_itself b = true_same the_type b b refl
 
 boolean_sound : (ty : PTy) → is_boolean ty ≡ true → ty ≡ boolean
 boolean_sound (integer a) h = absurd cc

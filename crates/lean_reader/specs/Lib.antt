@@ -27,3 +27,4 @@ pub mod Numerals
 pub mod TypeTurns
 pub mod Places
 pub mod Kinds
+pub mod ValueWords

@@ -20,15 +20,15 @@ use Rattle.lean_reader.specs.declared.arguments.WordFault.{WordFault}
 use Rattle.lean_reader.specs.declared.arguments.WordFault.TheVariants as W
 
 abbrev pub is_token : Mark → Token → Bool
-is_token m (mark k) = sameb the_type m k
+is_token m (mark k) = sameb the_type k m
 is_token m _ = false
 
 -- at most 10,000 brackets are open at once, where so many are open before
 abbrev pub few_open : ℕ → List Token → Bool
-few_open open [] = true
-few_open open (t ∷ ts) =
-    if is_token M.Open t then nat_lt open 10000 && few_open (suc open) ts
-    else (if is_token M.Close t then few_open (open - 1) ts else few_open open ts)
+few_open held [] = true
+few_open held (t ∷ ts) =
+    if is_token M.Open t then nat_lt held 10000 && few_open (suc held) ts
+    else (if is_token M.Close t then few_open (held - 1) ts else few_open held ts)
 
 -- the word is this value's atom, and the value has the type
 pub record IsWord (defs : Defs) (ty : PTy) (word : List ℕ) (v : PValue) : Type 0 where
@@ -68,7 +68,7 @@ pub record IsFirstBad (defs : Defs) (types : List PTy) (words : List (List ℕ))
 -- the pieces are the definition's type arguments, one a type parameter
 pub record AreTypeArguments (defs : Defs) (d : Def) (pieces : List (List ℕ)) (args : List PTy) : Type 0 where
   pub count : length pieces ≡ length d.type_params
-  pub pieces : ArePieces defs pieces args
+  pub types : ArePieces defs pieces args
 
 -- the types of the parameters with the type arguments put in
 abbrev pub parameter_types : Def → List PTy → List PTy

@@ -16,10 +16,10 @@ use Rattle.lean_reader.specs.Typing.{has_type, closed_value}
 
 -- at most 10,000 brackets are open at once, where so many are open before
 abbrev pub few_lexemes : ℕ → Tokens → Bool
-few_lexemes open [] = true
-few_lexemes open (l ∷ ls) =
-    if is_mark M.Open l.kind then nat_lt open 10000 && few_lexemes (suc open) ls
-    else (if is_mark M.Close l.kind then few_lexemes (open - 1) ls else few_lexemes open ls)
+few_lexemes held [] = true
+few_lexemes held (l ∷ ls) =
+    if is_mark M.Open l.kind then nat_lt held 10000 && few_lexemes (suc held) ls
+    else (if is_mark M.Close l.kind then few_lexemes (held - 1) ls else few_lexemes held ls)
 
 -- what is read, where nothing is left
 abbrev pub whole : {A : Type 0} → Option (A × Tokens) → Option A

@@ -1,6 +1,7 @@
 //! Reads the texts of the printed language (docs/TEXT.md, "Reading").
 #![tactic(auto)]
 
+mod arguments;
 mod atoms;
 mod bare;
 mod beginnings;
@@ -49,6 +50,7 @@ mod word_reading;
 mod words;
 
 pub(crate) use fault::ReadFault;
+pub use arguments::{WordFault, read_args};
 pub use laws::texts_are_read_whole;
 pub use naming_words::def_named;
 pub use values::print_atom;

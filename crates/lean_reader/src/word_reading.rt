@@ -145,15 +145,15 @@ fn whole_type(alloc: Global, tables: &Tables, tokens: &[Lexeme]) -> Result<Optio
 fn has_few_brackets(tokens: &[Lexeme]) -> bool
     ensures { result ≡ spec.few_lexemes 0 tokens.now }
 {
-    let mut open = 0u64;
+    let mut held = 0u64;
     for token in tokens {
         if is_mark(&token.kind, Mark::Open) {
-            if open >= 10_000 {
+            if held >= 10_000 {
                 return false;
             }
-            open += 1;
+            held += 1;
         } else if is_mark(&token.kind, Mark::Close) {
-            open = open.saturating_sub(1);
+            held = held.saturating_sub(1);
         }
     }
     true
