@@ -1,5 +1,6 @@
 mod Items
 mod Joins
+mod Stacked
 mod Chains
 mod Lays
 mod LaysWords

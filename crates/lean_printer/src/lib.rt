@@ -12,6 +12,7 @@ mod terms;
 #[cfg(test)]
 mod tests;
 mod types;
+mod values;
 mod words;
 
 ghost use Rattle.std.specs.Prelude.{◌≡◌, ◌++◌, IfOk, OnOk, string_bytes};
@@ -24,6 +25,7 @@ use aen_base::{NoMem, Text};
 use pure_ast::Defs;
 use put::put;
 use std::alloc::Global;
+pub use values::print_value;
 
 /// The text of the definitions, in time linear in its length. The text of well-formed definitions
 /// reads as these definitions. The only error is want of memory.

@@ -9,7 +9,7 @@ use crate::put::{put, put_number, put_variable};
 use aen_base::NoMem;
 use pure_ast::{Comp, CtorId, Defs, Pat, Term, TermNode};
 
-fn put_truth(out: &mut String, value: bool) -> Result<(), NoMem>
+pub(crate) fn put_truth(out: &mut String, value: bool) -> Result<(), NoMem>
     ensures { OnOk result (string_bytes out.new ≡ string_bytes out.old ++ spec.truth_text value) }
 {
     if value {

@@ -31,6 +31,13 @@ pub mod Definitions
 pub mod Texts
 pub mod Finding
 pub mod Naming
+pub mod Pieces
+pub mod Parts
+pub mod PuttingIn
+pub mod OutlineNames
+pub mod Typed
+pub mod ValueReading
+pub mod ArgumentLists
 pub mod Heading
 pub mod TypeTurns
 pub mod Turns

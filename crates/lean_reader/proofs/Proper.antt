@@ -234,7 +234,7 @@ truth_proper true = (refl, tt)
 truth_proper false = (refl, tt)
 
 mutual
-  term_proper : (d : Defs) (t : Term) → IsTerm d t → Proper (term_tokens d t)
+  pub term_proper : (d : Defs) (t : Term) → IsTerm d t → Proper (term_tokens d t)
   term_proper d (var v) h = (var_proper v h, tt)
   term_proper d (literal n) h = (range_numeral n.ty n.value h, (tt, (int_plain n.ty, tt)))
   term_proper d (truth b) h = truth_proper b

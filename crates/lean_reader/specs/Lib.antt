@@ -19,6 +19,10 @@ pub mod Finding
 pub mod Naming
 pub mod Laws
 pub mod Outlines
+pub mod NamedDefinitions
+pub mod Pieces
+pub mod Typing
+pub mod WordReading
 pub mod Numerals
 pub mod TypeTurns
 pub mod Places
@@ -27,3 +31,4 @@ pub mod Signs
 pub mod Outlining
 pub mod Faults
 pub mod Fitting
+pub mod ValueWords

@@ -1,17 +1,20 @@
 //! Reads the texts of the printed language (docs/TEXT.md, "Reading").
 #![tactic(auto)]
 
+mod arguments;
 mod atoms;
 mod bare;
 mod beginnings;
 mod bindings;
 mod by_name;
 mod calls;
+mod closed_values;
 mod codes;
 mod computations;
 mod constructors;
 mod cursor;
 mod declarations;
+mod declared_by;
 mod definition;
 mod digits;
 mod fault;
@@ -23,6 +26,7 @@ mod kinds;
 mod laws;
 mod named;
 mod names;
+mod naming_words;
 mod numerals;
 mod outline;
 mod outlining;
@@ -30,6 +34,7 @@ mod parameters;
 mod patterns;
 mod places;
 mod primitives;
+mod putting_in;
 mod repetitions;
 mod rule_code;
 mod rule_cursor;
@@ -44,10 +49,16 @@ mod type_parameters;
 mod type_starts;
 mod type_steps;
 mod types;
+mod typing;
+mod values;
 mod variables;
 mod variant;
 mod whole;
+mod word_reading;
 mod words;
 
 pub(crate) use fault::ReadFault;
+pub use arguments::{WordFault, read_args};
 pub use laws::texts_are_read_whole;
+pub use naming_words::def_named;
+pub use values::print_atom;

@@ -27,3 +27,5 @@ pub mod ShownTerms
 pub mod ShownCode
 pub mod Shown
 pub mod ShownLemmas
+pub mod ValueTerms
+pub mod HasType

@@ -1,0 +1,11 @@
+use Rattle.lean_reader.proofs.ValueReading.{piece_read, no_piece, some_fault, no_fault}
+use Rattle.lean_reader.proofs.word_reading.read_piece.Goals as goal
+
+pub returns-then-is_some : goal.returns-then-is_some
+returns-then-is_some c = no_piece c.args.defs.now c.args.piece.now (c.in_ok-lexemes.ensures.none (some_fault c.in_ok-lexemes.lexemes.fault c.if-is_some.ensures))
+
+pub returns : goal.returns
+returns c =
+    piece_read c.args.defs.now c.args.tables.now c.in_ok-lexemes.lexemes.list c.as_slice.result.now c.args.piece.now c.type_of.result
+    c.requires.well_formed c.requires.own c.as_slice.ensures (c.in_ok-lexemes.ensures.exact (no_fault c.in_ok-lexemes.lexemes.fault c.if-is_some.ensures))
+    c.type_of.ensures
