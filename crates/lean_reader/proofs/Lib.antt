@@ -53,4 +53,6 @@ pub mod Silence
 pub mod Skipping
 pub mod TypesOutlined
 pub mod DefinitionsOutlined
-pub mod Whole
+pub mod WholeTexts
+pub mod LexemesRead
+pub mod TextsRead

@@ -60,7 +60,7 @@ mark_same m (K.Punct p) (id n) h = absurd h
 mark_same m (K.Punct p) (number z) h = absurd h
 mark_same m (K.Punct p) (mark n) h = ap (λ x. sameb the_type x m) (sym h)
 
-few_same : (ls : Tokens) (ts : List Token) (held : ℕ) → AllStand ls ts → few_lexemes held ls ≡ few_open held ts
+pub few_same : (ls : Tokens) (ts : List Token) (held : ℕ) → AllStand ls ts → few_lexemes held ls ≡ few_open held ts
 few_same [] [] held h = refl
 few_same [] (t ∷ ts) held h = absurd h
 few_same (l ∷ ls) [] held h = absurd h

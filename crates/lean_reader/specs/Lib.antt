@@ -32,3 +32,5 @@ pub mod Outlining
 pub mod Faults
 pub mod Fitting
 pub mod ValueWords
+pub mod Lexemes
+pub mod Reading

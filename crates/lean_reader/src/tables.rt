@@ -160,4 +160,16 @@ impl Tables {
             back,
         })
     }
+
+    /// The functions' names by number.
+    pub(crate) fn into_functions(self) -> List<Name>
+        ensures { result ≡ self.functions }
+    {
+        let Tables {
+            types: _types,
+            functions,
+            definitions: _definitions,
+        } = self;
+        functions.into_items()
+    }
 }

@@ -142,7 +142,7 @@ fn whole_type(alloc: Global, tables: &Tables, tokens: &[Lexeme]) -> Result<Optio
 }
 
 /// Whether at most 10,000 brackets are open at once.
-fn has_few_brackets(tokens: &[Lexeme]) -> bool
+pub(crate) fn has_few_brackets(tokens: &[Lexeme]) -> bool
     ensures { result ≡ spec.few_lexemes 0 tokens.now }
 {
     let mut held = 0u64;
