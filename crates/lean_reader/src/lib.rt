@@ -39,6 +39,8 @@ mod types;
 mod variables;
 mod variant;
 mod whole;
+#[cfg(test)]
+mod whole_tests;
 mod words;
 
 pub(crate) use fault::ReadFault;
