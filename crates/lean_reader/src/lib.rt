@@ -57,6 +57,8 @@ mod values;
 mod variables;
 mod variant;
 mod whole;
+#[cfg(test)]
+mod whole_tests;
 mod word_reading;
 mod words;
 
