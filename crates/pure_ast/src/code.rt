@@ -51,6 +51,13 @@ impl Drop for Code {
                             };
                             self = next;
                             left = Some(more);
+                        } else if waiting.is_empty() {
+                            let mut more = arms;
+                            let Some((_pat, next)) = more.pop() else {
+                                return;
+                            };
+                            self = next;
+                            left = Some(more);
                         } else {
                             let (next, more) = put_under(Code::select(term, waiting), arms);
                             self = next;
@@ -67,6 +74,9 @@ impl Drop for Code {
                         if arms.is_empty() {
                             self = rest.into_inner();
                             left = Some(waiting);
+                        } else if waiting.is_empty() {
+                            self = rest.into_inner();
+                            left = Some(arms);
                         } else {
                             let (next, more) = put_under(
                                 bind_waiting(variable, term, waiting, rest),

@@ -131,3 +131,24 @@ loop-comp-smaller-then-is_empty t c =
     let small : nodes_code c.loop-comp.self + nodes_waiting c.loop-comp.left ≤ nodes_code c.args.self = c.loop-comp.invariant in
     fewer_in_all (nodes_code c.loop-comp.self + nodes_waiting c.loop-comp.left) (nodes_code c.in-Some-pop-3.next + nodes_arms (arms c.pop-then-is_empty.new.self)) (nodes_code c.loop-comp.self) (nodes_code c.in-Some-pop-3.next) (nodes_code c.args.self)
     (omega (arith, same, node, held, taken, next)) (omega (arith, same, node, held, taken, next, small))
+
+pub loop-comp-preserved-then-is_empty-2 : goal.loop-comp-preserved-then-is_empty-2
+loop-comp-preserved-then-is_empty-2 t c =
+    let same = ap nodes_code c.self.view_is in
+    let node = ap (λ n. nodes_code (code_of n)) c.in-Match.is in
+    let held = ap nodes_waiting c.in-Some-left.is in
+    let taken = arms_taken c.in-Match.arms c.pop-then-is_empty-2.new.self _ c.in-Some-pop-4.ensures in
+    let next = ap nodes_code c.in-Some-pop-4.next-is in
+    let small : nodes_code c.loop-comp.self + nodes_waiting c.loop-comp.left ≤ nodes_code c.args.self = c.loop-comp.invariant in
+    omega (arith, same, node, held, taken, next, small)
+
+pub loop-comp-smaller-then-is_empty-2 : goal.loop-comp-smaller-then-is_empty-2
+loop-comp-smaller-then-is_empty-2 t c =
+    let same = ap nodes_code c.self.view_is in
+    let node = ap (λ n. nodes_code (code_of n)) c.in-Match.is in
+    let held = ap nodes_waiting c.in-Some-left.is in
+    let taken = arms_taken c.in-Match.arms c.pop-then-is_empty-2.new.self _ c.in-Some-pop-4.ensures in
+    let next = ap nodes_code c.in-Some-pop-4.next-is in
+    let small : nodes_code c.loop-comp.self + nodes_waiting c.loop-comp.left ≤ nodes_code c.args.self = c.loop-comp.invariant in
+    fewer_in_all (nodes_code c.loop-comp.self + nodes_waiting c.loop-comp.left) (nodes_code c.in-Some-pop-4.next + nodes_arms (arms c.pop-then-is_empty-2.new.self)) (nodes_code c.loop-comp.self) (nodes_code c.in-Some-pop-4.next) (nodes_code c.args.self)
+    (omega (arith, same, node, held, taken, next)) (omega (arith, same, node, held, taken, next, small))
