@@ -1,10 +1,11 @@
-ghost use Rattle.std.specs.Prelude.{◌≡◌, [], ◌∷◌, ◌++◌, ◌<◌, length, slice_get, slice_set, ◌↔◌, IsTrue, IfOk, MatchOption, OnOk, OnErr, OnSome};
+ghost use Rattle.std.specs.Prelude.{◌≡◌, [], ◌∷◌, ◌++◌, ◌<◌, length, slice_get, slice_set, Some, ◌↔◌, IsTrue, IfOk, MatchOption, OnOk, OnErr, OnSome};
 ghost use Rattle.std.specs.Option.{option_copied, option_copied_mut};
 ghost use Rattle.std.specs.Borrow.{sem};
 
 use crate::NoMem;
 use std::alloc::Global;
 use std::marker::Model;
+use std::mem;
 
 /// A `Vec` that contracts see as the list of its items, so that a copy equals what it copies.
 #[derive(Debug)]
@@ -83,6 +84,15 @@ impl<T> List<T> {
         ensures value { option_copied_mut result ≡ slice_get self.old at }
     {
         self.items.get_mut(at)
+    }
+
+    /// Puts an item in the place of another, and gives that one.
+    pub fn replace(&mut self, at: usize, item: T) -> T
+        requires { at < length self.old }
+        ensures taken { slice_get self.old at ≡ Some result }
+        ensures put { self.new ≡ slice_set self.old at item }
+    {
+        mem::replace(&mut self.items[at], item)
     }
 
     /// Takes the last item off; None exactly where there is none.

@@ -1,5 +1,5 @@
 -- Code is larger than its parts.
-use Rattle.std.specs.Prelude.{◌≤◌, ◌+◌, ◌*◌, ℕ, List, [], ◌∷◌}
+use Rattle.std.specs.Prelude.{◌≤◌, ◌+◌, ◌*◌, ℕ, Option, Some, None, List, [], ◌∷◌}
 use Rattle.std.proofs.Common.{arith}
 use denote.Param.Weighed.{most}
 use Rattle.pure_ast.specs.declared.code.CodeNode.{CodeNode}
@@ -29,3 +29,8 @@ drop_weight = shapes.weighed-CodeNode-Match-1-at-2.weight Code (λ c. 2 * (nodes
 pub most_dropped : (all : List (Pat × Code)) → most drop_weight all ≤ 2 * nodes_arms (arms all)
 most_dropped [] = omega arith
 most_dropped (x ∷ xs) = omega (arith, most_dropped xs)
+
+-- the nodes of arms that wait
+abbrev pub nodes_waiting : Option (List (Pat × Code)) → ℕ
+nodes_waiting None = 0
+nodes_waiting (Some all) = nodes_arms (arms all)

@@ -1,5 +1,5 @@
 -- A term is larger than its parts.
-use Rattle.std.specs.Prelude.{◌≤◌, ◌+◌, List, [], ◌∷◌}
+use Rattle.std.specs.Prelude.{◌≤◌, ◌+◌, ◌*◌, List, [], ◌∷◌}
 use Rattle.std.proofs.Common.{arith}
 use denote.Param.Weighed.{most}
 use Rattle.pure_ast.specs.declared.term.TermNode.{TermNode}
@@ -16,3 +16,8 @@ pub term_falls : (n : TermNode) → deep-TermNode n ≤ nodes_term (term_of n)
 term_falls (N.Tuple ts) = omega (arith, most_terms ts)
 term_falls (N.Ctor c ts) = omega (arith, most_terms ts)
 term_falls _ = omega arith
+
+-- the parts of a term are smaller than the term
+pub most_dropped : (ts : List Term) → most (λ t. 2 * (nodes_term t + 1) + 0) ts ≤ 2 * nodes_terms (terms ts)
+most_dropped [] = omega arith
+most_dropped (t ∷ ts) = omega (arith, most_dropped ts)

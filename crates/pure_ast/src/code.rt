@@ -1,4 +1,4 @@
-ghost use Rattle.std.specs.Prelude.{◌≡◌, IfOk};
+ghost use Rattle.std.specs.Prelude.{◌≡◌, ◌+◌, ◌<◌, length, IfOk};
 ghost use Rattle.pure_ast.specs.Code as codes;
 
 use crate::{Comp, Pat, Term};
@@ -12,20 +12,105 @@ pub struct Code {
     pub node: CodeNode,
 }
 
-/// A long chain of binds is dropped in a loop.
+/// Code is dropped in a loop, however long its chains of binds and however deep its matches. The
+/// arms that are left to drop stand in one list; where a match has arms of its own, that list waits
+/// in the place of the first of them, which is dropped next.
 impl Drop for Code {
     fn drop(mut self) {
+        let mut left: Option<List<(Pat, Code)>> = None;
         loop {
             let Code { node } = self;
             match node {
-                CodeNode::Match(_term, _arms) => return,
-                CodeNode::Last(_comp) => return,
                 CodeNode::Bind(_, _comp, rest) => self = rest.into_inner(),
                 CodeNode::Let(_, _term, rest) => self = rest.into_inner(),
-                CodeNode::BindMatch(_, _term, _arms, rest) => self = rest.into_inner(),
+                CodeNode::Last(_comp) => match left {
+                    None => return,
+                    Some(waiting) => {
+                        let mut more = waiting;
+                        let Some((_pat, next)) = more.pop() else {
+                            return;
+                        };
+                        self = next;
+                        left = Some(more);
+                    }
+                },
+                CodeNode::Match(term, arms) => match left {
+                    None => {
+                        let mut more = arms;
+                        let Some((_pat, next)) = more.pop() else {
+                            return;
+                        };
+                        self = next;
+                        left = Some(more);
+                    }
+                    Some(waiting) => {
+                        if arms.is_empty() {
+                            let mut more = waiting;
+                            let Some((_pat, next)) = more.pop() else {
+                                return;
+                            };
+                            self = next;
+                            left = Some(more);
+                        } else if waiting.is_empty() {
+                            let mut more = arms;
+                            let Some((_pat, next)) = more.pop() else {
+                                return;
+                            };
+                            self = next;
+                            left = Some(more);
+                        } else {
+                            let (next, more) = put_under(Code::select(term, waiting), arms);
+                            self = next;
+                            left = Some(more);
+                        }
+                    }
+                },
+                CodeNode::BindMatch(variable, term, arms, rest) => match left {
+                    None => {
+                        self = rest.into_inner();
+                        left = Some(arms);
+                    }
+                    Some(waiting) => {
+                        if arms.is_empty() {
+                            self = rest.into_inner();
+                            left = Some(waiting);
+                        } else if waiting.is_empty() {
+                            self = rest.into_inner();
+                            left = Some(arms);
+                        } else {
+                            let (next, more) = put_under(
+                                bind_waiting(variable, term, waiting, rest),
+                                arms,
+                            );
+                            self = next;
+                            left = Some(more);
+                        }
+                    }
+                },
             }
         }
     }
+}
+
+/// A bind of a match's value before code that stands in a box already.
+fn bind_waiting(variable: u32, term: Term, arms: List<(Pat, Code)>, rest: Boxed<Code>) -> Code
+    ensures { result ≡ codes.bind_select variable term (codes.arms arms) rest }
+{
+    Code {
+        node: CodeNode::BindMatch(variable, term, arms, rest),
+    }
+}
+
+/// The code of the first of some arms, and the arms with other code in its place. It takes no
+/// memory.
+fn put_under(waiting: Code, arms: List<(Pat, Code)>) -> (Code, List<(Pat, Code)>)
+    requires { 0 < length arms }
+    ensures first { codes.nodes_code result.0 < codes.nodes_arms (codes.arms arms) }
+    ensures all { codes.nodes_code result.0 + codes.nodes_arms (codes.arms result.1) ≡ codes.nodes_code waiting + codes.nodes_arms (codes.arms arms) }
+{
+    let mut arms = arms;
+    let (_pat, first) = arms.replace(0, (Pat::Bool(true), waiting));
+    (first, arms)
 }
 
 /// The forms of code: a bind of a computation's value, a variable for a term, a match that ends the

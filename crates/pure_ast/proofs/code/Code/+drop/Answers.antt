@@ -1,24 +1,154 @@
--- What is dropped beside the rest of the code is smaller than the whole.
-use Rattle.std.proofs.Common.{◌≡◌, ◌+◌, ◌*◌, ◌≤◌, ap, arith, rules}
-use Rattle.pure_ast.specs.Code.{nodes_code}
+-- Each turn leaves fewer nodes in all.
+use Rattle.std.proofs.Common.{◌≡◌, ◌+◌, ◌*◌, ◌<◌, ◌≤◌, ap, arith}
+use Rattle.pure_ast.specs.Code.{nodes_code, nodes_arms, arms}
+use Rattle.pure_ast.specs.CodeFalls.{nodes_waiting}
 use Rattle.pure_ast.specs.CodeView.{code_of}
-use Rattle.pure_ast.specs.CodeFalls.{most_dropped}
+use Rattle.pure_ast.proofs.Dropping.{arms_taken, fewer_in_all}
 use Rattle.pure_ast.proofs.code.Code.+drop.Goals as goal
 
-pub drop-arms-requires : goal.drop-arms-requires
-drop-arms-requires t c κs =
+pub loop-comp-preserved-in-Some-pop : goal.loop-comp-preserved-in-Some-pop
+loop-comp-preserved-in-Some-pop t c =
+    let same = ap nodes_code c.self.view_is in
+    let node = ap (λ n. nodes_code (code_of n)) c.in-Last.is in
+    let held = ap nodes_waiting c.in-Some.is in
+    let taken = arms_taken c.in-Some.waiting c.pop.new.self _ c.in-Some-pop.ensures in
+    let next = ap nodes_code c.in-Some-pop.next-is in
+    let small : nodes_code c.loop-comp.self + nodes_waiting c.loop-comp.left ≤ nodes_code c.args.self = c.loop-comp.invariant in
+    omega (arith, same, node, held, taken, next, small)
+
+pub loop-comp-smaller-in-Some-pop : goal.loop-comp-smaller-in-Some-pop
+loop-comp-smaller-in-Some-pop t c =
+    let same = ap nodes_code c.self.view_is in
+    let node = ap (λ n. nodes_code (code_of n)) c.in-Last.is in
+    let held = ap nodes_waiting c.in-Some.is in
+    let taken = arms_taken c.in-Some.waiting c.pop.new.self _ c.in-Some-pop.ensures in
+    let next = ap nodes_code c.in-Some-pop.next-is in
+    let small : nodes_code c.loop-comp.self + nodes_waiting c.loop-comp.left ≤ nodes_code c.args.self = c.loop-comp.invariant in
+    fewer_in_all (nodes_code c.loop-comp.self + nodes_waiting c.loop-comp.left) (nodes_code c.in-Some-pop.next + nodes_arms (arms c.pop.new.self)) (nodes_code c.loop-comp.self) (nodes_code c.in-Some-pop.next) (nodes_code c.args.self)
+    (omega (arith, same, node, held, taken, next)) (omega (arith, same, node, held, taken, next, small))
+
+pub loop-comp-preserved-in-Some-pop-2 : goal.loop-comp-preserved-in-Some-pop-2
+loop-comp-preserved-in-Some-pop-2 t c =
+    let same = ap nodes_code c.self.view_is in
+    let node = ap (λ n. nodes_code (code_of n)) c.in-Last.is in
+    let held = ap nodes_waiting c.in-Some.is in
+    let taken = arms_taken c.in-Some.waiting c.pop.new.self _ c.in-Some-pop.ensures in
+    let next = ap nodes_code c.in-Some-pop.next-is in
+    let small : nodes_code c.loop-comp.self + nodes_waiting c.loop-comp.left ≤ nodes_code c.args.self = c.loop-comp.invariant in
+    omega (arith, same, node, held, taken, next, small)
+
+pub loop-comp-smaller-in-Some-pop-2 : goal.loop-comp-smaller-in-Some-pop-2
+loop-comp-smaller-in-Some-pop-2 t c =
+    let same = ap nodes_code c.self.view_is in
+    let node = ap (λ n. nodes_code (code_of n)) c.in-Last.is in
+    let held = ap nodes_waiting c.in-Some.is in
+    let taken = arms_taken c.in-Some.waiting c.pop.new.self _ c.in-Some-pop.ensures in
+    let next = ap nodes_code c.in-Some-pop.next-is in
+    let small : nodes_code c.loop-comp.self + nodes_waiting c.loop-comp.left ≤ nodes_code c.args.self = c.loop-comp.invariant in
+    fewer_in_all (nodes_code c.loop-comp.self + nodes_waiting c.loop-comp.left) (nodes_code c.in-Some-pop.next + nodes_arms (arms c.pop.new.self)) (nodes_code c.loop-comp.self) (nodes_code c.in-Some-pop.next) (nodes_code c.args.self)
+    (omega (arith, same, node, held, taken, next)) (omega (arith, same, node, held, taken, next, small))
+
+pub loop-comp-preserved-in-Some-pop-3 : goal.loop-comp-preserved-in-Some-pop-3
+loop-comp-preserved-in-Some-pop-3 t c =
+    let same = ap nodes_code c.self.view_is in
+    let node = ap (λ n. nodes_code (code_of n)) c.in-Last.is in
+    let held = ap nodes_waiting c.in-Some.is in
+    let taken = arms_taken c.in-Some.waiting c.pop.new.self _ c.in-Some-pop.ensures in
+    let next = ap nodes_code c.in-Some-pop.next-is in
+    let small : nodes_code c.loop-comp.self + nodes_waiting c.loop-comp.left ≤ nodes_code c.args.self = c.loop-comp.invariant in
+    omega (arith, same, node, held, taken, next, small)
+
+pub loop-comp-smaller-in-Some-pop-3 : goal.loop-comp-smaller-in-Some-pop-3
+loop-comp-smaller-in-Some-pop-3 t c =
+    let same = ap nodes_code c.self.view_is in
+    let node = ap (λ n. nodes_code (code_of n)) c.in-Last.is in
+    let held = ap nodes_waiting c.in-Some.is in
+    let taken = arms_taken c.in-Some.waiting c.pop.new.self _ c.in-Some-pop.ensures in
+    let next = ap nodes_code c.in-Some-pop.next-is in
+    let small : nodes_code c.loop-comp.self + nodes_waiting c.loop-comp.left ≤ nodes_code c.args.self = c.loop-comp.invariant in
+    fewer_in_all (nodes_code c.loop-comp.self + nodes_waiting c.loop-comp.left) (nodes_code c.in-Some-pop.next + nodes_arms (arms c.pop.new.self)) (nodes_code c.loop-comp.self) (nodes_code c.in-Some-pop.next) (nodes_code c.args.self)
+    (omega (arith, same, node, held, taken, next)) (omega (arith, same, node, held, taken, next, small))
+
+pub loop-comp-preserved-in-Some-pop-4 : goal.loop-comp-preserved-in-Some-pop-4
+loop-comp-preserved-in-Some-pop-4 t c =
+    let same = ap nodes_code c.self.view_is in
+    let node = ap (λ n. nodes_code (code_of n)) c.in-Last.is in
+    let held = ap nodes_waiting c.in-Some.is in
+    let taken = arms_taken c.in-Some.waiting c.pop.new.self _ c.in-Some-pop.ensures in
+    let next = ap nodes_code c.in-Some-pop.next-is in
+    let small : nodes_code c.loop-comp.self + nodes_waiting c.loop-comp.left ≤ nodes_code c.args.self = c.loop-comp.invariant in
+    omega (arith, same, node, held, taken, next, small)
+
+pub loop-comp-smaller-in-Some-pop-4 : goal.loop-comp-smaller-in-Some-pop-4
+loop-comp-smaller-in-Some-pop-4 t c =
+    let same = ap nodes_code c.self.view_is in
+    let node = ap (λ n. nodes_code (code_of n)) c.in-Last.is in
+    let held = ap nodes_waiting c.in-Some.is in
+    let taken = arms_taken c.in-Some.waiting c.pop.new.self _ c.in-Some-pop.ensures in
+    let next = ap nodes_code c.in-Some-pop.next-is in
+    let small : nodes_code c.loop-comp.self + nodes_waiting c.loop-comp.left ≤ nodes_code c.args.self = c.loop-comp.invariant in
+    fewer_in_all (nodes_code c.loop-comp.self + nodes_waiting c.loop-comp.left) (nodes_code c.in-Some-pop.next + nodes_arms (arms c.pop.new.self)) (nodes_code c.loop-comp.self) (nodes_code c.in-Some-pop.next) (nodes_code c.args.self)
+    (omega (arith, same, node, held, taken, next)) (omega (arith, same, node, held, taken, next, small))
+
+pub loop-comp-preserved-in-Match : goal.loop-comp-preserved-in-Match
+loop-comp-preserved-in-Match t c =
     let same = ap nodes_code c.self.view_is in
     let node = ap (λ n. nodes_code (code_of n)) c.in-Match.is in
-    let d : 2 * (nodes_code c.args.self + 1) + 0 ≡ t = c.decreases in
-    let small : nodes_code c.loop-term.self ≤ nodes_code c.args.self = c.loop-term.invariant in
-    let parts = most_dropped c.in-Match._arms in
-    ((omega (arith, same, node), tt), search rules)
+    let held = ap nodes_waiting c.in-None-left.is in
+    let taken = arms_taken c.in-Match.arms c.pop-in-None-left.new.self _ c.in-Some-pop-2.ensures in
+    let next = ap nodes_code c.in-Some-pop-2.next-is in
+    let small : nodes_code c.loop-comp.self + nodes_waiting c.loop-comp.left ≤ nodes_code c.args.self = c.loop-comp.invariant in
+    omega (arith, same, node, held, taken, next, small)
 
-pub drop-arms-requires-in-BindMatch : goal.drop-arms-requires-in-BindMatch
-drop-arms-requires-in-BindMatch t c κs =
+pub loop-comp-smaller-in-Match : goal.loop-comp-smaller-in-Match
+loop-comp-smaller-in-Match t c =
     let same = ap nodes_code c.self.view_is in
-    let node = ap (λ n. nodes_code (code_of n)) c.in-BindMatch.is in
-    let d : 2 * (nodes_code c.args.self + 1) + 0 ≡ t = c.decreases in
-    let small : nodes_code c.loop-term.self ≤ nodes_code c.args.self = c.loop-term.invariant in
-    let parts = most_dropped c.in-BindMatch._arms in
-    ((omega (arith, same, node), tt), search rules)
+    let node = ap (λ n. nodes_code (code_of n)) c.in-Match.is in
+    let held = ap nodes_waiting c.in-None-left.is in
+    let taken = arms_taken c.in-Match.arms c.pop-in-None-left.new.self _ c.in-Some-pop-2.ensures in
+    let next = ap nodes_code c.in-Some-pop-2.next-is in
+    let small : nodes_code c.loop-comp.self + nodes_waiting c.loop-comp.left ≤ nodes_code c.args.self = c.loop-comp.invariant in
+    fewer_in_all (nodes_code c.loop-comp.self + nodes_waiting c.loop-comp.left) (nodes_code c.in-Some-pop-2.next + nodes_arms (arms c.pop-in-None-left.new.self)) (nodes_code c.loop-comp.self) (nodes_code c.in-Some-pop-2.next) (nodes_code c.args.self)
+    (omega (arith, same, node, held, taken, next)) (omega (arith, same, node, held, taken, next, small))
+
+pub loop-comp-preserved-then-is_empty : goal.loop-comp-preserved-then-is_empty
+loop-comp-preserved-then-is_empty t c =
+    let same = ap nodes_code c.self.view_is in
+    let node = ap (λ n. nodes_code (code_of n)) c.in-Match.is in
+    let held = ap nodes_waiting c.in-Some-left.is in
+    let taken = arms_taken c.in-Some-left.waiting c.pop-then-is_empty.new.self _ c.in-Some-pop-3.ensures in
+    let next = ap nodes_code c.in-Some-pop-3.next-is in
+    let small : nodes_code c.loop-comp.self + nodes_waiting c.loop-comp.left ≤ nodes_code c.args.self = c.loop-comp.invariant in
+    omega (arith, same, node, held, taken, next, small)
+
+pub loop-comp-smaller-then-is_empty : goal.loop-comp-smaller-then-is_empty
+loop-comp-smaller-then-is_empty t c =
+    let same = ap nodes_code c.self.view_is in
+    let node = ap (λ n. nodes_code (code_of n)) c.in-Match.is in
+    let held = ap nodes_waiting c.in-Some-left.is in
+    let taken = arms_taken c.in-Some-left.waiting c.pop-then-is_empty.new.self _ c.in-Some-pop-3.ensures in
+    let next = ap nodes_code c.in-Some-pop-3.next-is in
+    let small : nodes_code c.loop-comp.self + nodes_waiting c.loop-comp.left ≤ nodes_code c.args.self = c.loop-comp.invariant in
+    fewer_in_all (nodes_code c.loop-comp.self + nodes_waiting c.loop-comp.left) (nodes_code c.in-Some-pop-3.next + nodes_arms (arms c.pop-then-is_empty.new.self)) (nodes_code c.loop-comp.self) (nodes_code c.in-Some-pop-3.next) (nodes_code c.args.self)
+    (omega (arith, same, node, held, taken, next)) (omega (arith, same, node, held, taken, next, small))
+
+pub loop-comp-preserved-then-is_empty-2 : goal.loop-comp-preserved-then-is_empty-2
+loop-comp-preserved-then-is_empty-2 t c =
+    let same = ap nodes_code c.self.view_is in
+    let node = ap (λ n. nodes_code (code_of n)) c.in-Match.is in
+    let held = ap nodes_waiting c.in-Some-left.is in
+    let taken = arms_taken c.in-Match.arms c.pop-then-is_empty-2.new.self _ c.in-Some-pop-4.ensures in
+    let next = ap nodes_code c.in-Some-pop-4.next-is in
+    let small : nodes_code c.loop-comp.self + nodes_waiting c.loop-comp.left ≤ nodes_code c.args.self = c.loop-comp.invariant in
+    omega (arith, same, node, held, taken, next, small)
+
+pub loop-comp-smaller-then-is_empty-2 : goal.loop-comp-smaller-then-is_empty-2
+loop-comp-smaller-then-is_empty-2 t c =
+    let same = ap nodes_code c.self.view_is in
+    let node = ap (λ n. nodes_code (code_of n)) c.in-Match.is in
+    let held = ap nodes_waiting c.in-Some-left.is in
+    let taken = arms_taken c.in-Match.arms c.pop-then-is_empty-2.new.self _ c.in-Some-pop-4.ensures in
+    let next = ap nodes_code c.in-Some-pop-4.next-is in
+    let small : nodes_code c.loop-comp.self + nodes_waiting c.loop-comp.left ≤ nodes_code c.args.self = c.loop-comp.invariant in
+    fewer_in_all (nodes_code c.loop-comp.self + nodes_waiting c.loop-comp.left) (nodes_code c.in-Some-pop-4.next + nodes_arms (arms c.pop-then-is_empty-2.new.self)) (nodes_code c.loop-comp.self) (nodes_code c.in-Some-pop-4.next) (nodes_code c.args.self)
+    (omega (arith, same, node, held, taken, next)) (omega (arith, same, node, held, taken, next, small))

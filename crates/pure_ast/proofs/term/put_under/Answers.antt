@@ -1,0 +1,9 @@
+-- The first part is taken out, and a tuple of the list is put there.
+use Rattle.pure_ast.proofs.Dropping.{below_first, all_kept}
+use Rattle.pure_ast.proofs.term.put_under.Goals as goal
+
+pub returns-clause-first : goal.returns-clause-first
+returns-clause-first c = below_first c.args.parts c.replace-first.result c.replace-first.ensures.taken
+
+pub returns-clause-all : goal.returns-clause-all
+returns-clause-all c = all_kept c.args.parts c.replace-first.new.self c.args.left c.replace-first.result c.tuple.result c.replace-first.ensures.taken c.tuple.ensures c.replace-first.ensures.put
