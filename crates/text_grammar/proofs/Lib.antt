@@ -12,3 +12,4 @@ pub mod MakesWords
 pub mod MakesTypes
 pub mod MakesTerms
 pub mod MakesCode
+pub mod MakesTexts

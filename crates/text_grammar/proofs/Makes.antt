@@ -1,6 +1,6 @@
 -- What symbols derive, told by the tokens that lexemes stand for.
-use Rattle.std.proofs.Common.{◌≡◌, refl, sym, ap, ◌∙◌, subst, inl, inr, ◌⊎◌, ℕ, zero, suc, ◌<◌, ℤ, Bool, true, false, List, [], ◌∷◌, ◌++◌, append_assoc, Option, Some, None}
-use Rattle.std.specs.Prelude.{◌&&◌, slice_get, bytes_eq, pos, codes}
+use Rattle.std.proofs.Common.{◌≡◌, refl, sym, ap, ◌∙◌, subst, inl, inr, ℕ, zero, suc, ℤ, true, List, [], ◌∷◌, ◌++◌, append_assoc, Some}
+use Rattle.std.specs.Prelude.{slice_get}
 use Rattle.text_meaning.specs.declared.mark.Mark.{Mark}
 use Rattle.text_meaning.specs.Tokens.{Token, word, id, number, mark}
 use Rattle.text_tokens.specs.declared.lexeme.LexemeKind.{LexemeKind}
@@ -14,7 +14,6 @@ use Rattle.text_grammar.specs.declared.symbol.Terminal.TheVariants as T
 use Rattle.text_grammar.specs.Derivations.{Tokens, IsOneOf, Derives, nothing, token, part}
 use Rattle.text_grammar.specs.Grammar.{productions}
 use Rattle.text_grammar.specs.Tests.{passes, meets, test_of}
-use Rattle.text_grammar.proofs.Sitting.{of_left, of_right}
 
 -- lexemes that stand for these tokens are derived
 pub record Makes (symbols : List Symbol) (ts : List Token) : Type 0 where

@@ -1,8 +1,7 @@
 -- The spelling of names of definitions, of computations and of code is in the grammar.
-use Rattle.std.proofs.Common.{◌≡◌, refl, sym, ap, ◌∙◌, subst, inl, inr, ◌⊎◌, ℕ, zero, suc, length, true, false, List, [], ◌∷◌, ◌++◌, append_assoc, Option, Some, None}
+use Rattle.std.proofs.Common.{◌≡◌, refl, sym, ap, subst, inl, inr, ◌⊎◌, ℕ, zero, suc, length, List, [], ◌∷◌, ◌++◌, append_assoc, Option, Some, None}
 use Rattle.std.specs.Prelude.{slice_get, codes}
 use Rattle.std.specs.Option.{option_map}
-use Rattle.aen_base.specs.declared.operators.Builtin.{Builtin}
 use Rattle.aen_base.specs.declared.operators.Builtin.TheVariants.{BoxNew, Replace, Swap}
 use Rattle.pure_ast.specs.Code.{Code, Arms, bind, put, select, last, bind_select, no_arms, more_arms}
 use Rattle.pure_ast.specs.declared.comp.Comp.{Comp}
@@ -19,16 +18,15 @@ use Rattle.text_meaning.specs.Ranges.{IsPrimitive}
 use Rattle.text_meaning.specs.SpelledCode.{code_tokens, arms_tokens}
 use Rattle.text_meaning.specs.SpelledNames.{kind_tokens, def_name_tokens, prim_tokens}
 use Rattle.text_meaning.specs.SpelledTerms.{term_tokens, terms_tokens, pat_tokens, comp_tokens}
-use Rattle.text_meaning.specs.Tokens.{Token, word, id, mark, back_text}
+use Rattle.text_meaning.specs.Tokens.{Token, word, mark, back_text}
 use Rattle.text_meaning.specs.WellFormed.{IsKind}
 use Rattle.text_meaning.specs.WellFormedCode.{IsCode, AreArms}
 use Rattle.text_meaning.specs.WellFormedTerms.{IsComp}
 use Rattle.text_meaning.specs.declared.mark.Mark.TheVariants as M
 use Rattle.text_grammar.specs.declared.symbol.Symbol.{Symbol}
-use Rattle.text_grammar.specs.declared.symbol.Symbol.TheVariants as S
 use Rattle.text_grammar.specs.declared.symbol.Nonterminal.TheVariants as N
 use Rattle.text_grammar.specs.declared.symbol.Terminal.TheVariants as T
-use Rattle.text_grammar.specs.Derivations.{Tokens, IsOneOf, Derives, part}
+use Rattle.text_grammar.specs.Derivations.{Tokens, Derives, part}
 use Rattle.text_grammar.specs.Tests.{meets, test_of}
 use Rattle.text_tokens.specs.declared.lexeme.LexemeKind.TheVariants as L
 use Rattle.text_grammar.specs.Grammar.{◌▸◌, ◌▹◌, computations}
@@ -61,7 +59,7 @@ module _ (defs : Defs) where
       tok (is_word refl) (tok (is_mark refl) (tok is_name (way 0 refl (tok (is_mark refl) (way 0 refl (tok (is_loop h) (way 1 refl g)))))))
   name_makes (K.LoopBack f k c) rest ts h g =
       tok (is_word refl) (tok (is_mark refl) (tok is_name (way 0 refl (tok (is_mark refl) (way 0 refl
-          (tok (is_loop h.0) (way 0 refl (tok (is_mark refl) (tok (is_back h.1) g)))))))))
+      (tok (is_loop h.0) (way 0 refl (tok (is_mark refl) (tok (is_back h.1) g)))))))))
 
   swap_back : (r : ℕ) (rest : List Symbol) (ts : List Token) → (r ≡ 0) ⊎ (r ≡ 1) → Makes rest ts → Makes (N.SwapRegion ▹ rest) (word (back_text r) ∷ ts)
   swap_back r rest ts (inl e) f = way 0 refl (tok (back_zero r e) f)
@@ -99,27 +97,27 @@ module _ (defs : Defs) where
     comp_makes (C.Call d parts) rest ts h f =
         let name = def_name_tokens defs (slice_get defs.defs d.0) in
         way 2 refl (along (append_assoc name (word (codes "n") ∷ terms_tokens defs (terms parts)) ts)
-            (callee_makes (slice_get defs.defs d.0) d.0 (length parts) (T.Fuel ▸ N.Atoms ▹ rest) (word (codes "n") ∷ (terms_tokens defs (terms parts) ++ ts)) refl h.0
-            (tok (is_word refl) (terms_make defs (terms parts) rest ts h.1 f))))
+        (callee_makes (slice_get defs.defs d.0) d.0 (length parts) (T.Fuel ▸ N.Atoms ▹ rest) (word (codes "n") ∷ (terms_tokens defs (terms parts) ++ ts)) refl h.0
+        (tok (is_word refl) (terms_make defs (terms parts) rest ts h.1 f))))
     comp_makes (C.Prim p parts) rest ts h f =
         along (append_assoc (prim_tokens p) (terms_tokens defs (terms parts)) ts)
-            (primitive_makes p rest (terms_tokens defs (terms parts) ++ ts) h.0 (terms_make defs (terms parts) rest ts h.2 f))
+        (primitive_makes p rest (terms_tokens defs (terms parts) ++ ts) h.0 (terms_make defs (terms parts) rest ts h.2 f))
 
     mutual
       pub code_makes : (c : Code) (rest : List Symbol) (ts : List Token) → IsCode defs c → Makes rest ts → Makes (N.Code ▹ rest) (code_tokens defs c ++ ts)
       code_makes (bind v c k) rest ts h f =
           way 8 refl (tok (is_word refl) (tok (is_var h.0) (way 0 refl (tok (is_mark refl)
-              (along (append_assoc (comp_tokens defs c) (mark M.Semicolon ∷ code_tokens defs k) ts)
-              (comp_makes c (T.Semicolon ▸ N.Code ▹ rest) (mark M.Semicolon ∷ (code_tokens defs k ++ ts)) h.1 (tok (is_mark refl) (code_makes k rest ts h.2 f))))))))
+          (along (append_assoc (comp_tokens defs c) (mark M.Semicolon ∷ code_tokens defs k) ts)
+          (comp_makes c (T.Semicolon ▸ N.Code ▹ rest) (mark M.Semicolon ∷ (code_tokens defs k ++ ts)) h.1 (tok (is_mark refl) (code_makes k rest ts h.2 f))))))))
       code_makes (put v t k) rest ts h f =
           way 8 refl (tok (is_word refl) (tok (is_var h.0) (way 1 refl (tok (is_mark refl)
-              (along (append_assoc (term_tokens defs t) (mark M.Semicolon ∷ code_tokens defs k) ts)
-              (term_makes defs t (T.Semicolon ▸ N.Code ▹ rest) (mark M.Semicolon ∷ (code_tokens defs k ++ ts)) h.1 (tok (is_mark refl) (code_makes k rest ts h.2 f))))))))
+          (along (append_assoc (term_tokens defs t) (mark M.Semicolon ∷ code_tokens defs k) ts)
+          (term_makes defs t (T.Semicolon ▸ N.Code ▹ rest) (mark M.Semicolon ∷ (code_tokens defs k ++ ts)) h.1 (tok (is_mark refl) (code_makes k rest ts h.2 f))))))))
       code_makes (select t arms) rest ts h f =
           way 9 refl (tok (is_mark refl) (tok (is_word refl)
-              (along (append_assoc (term_tokens defs t) (word (codes "with") ∷ (arms_tokens defs arms ++ mark M.Close ∷ [])) ts)
-              (term_makes defs t (T.With ▸ N.Arms ▹ rest) (word (codes "with") ∷ ((arms_tokens defs arms ++ mark M.Close ∷ []) ++ ts)) h.0
-              (tok (is_word refl) (along (append_assoc (arms_tokens defs arms) (mark M.Close ∷ []) ts) (arms_make arms rest ts h.1 f)))))))
+          (along (append_assoc (term_tokens defs t) (word (codes "with") ∷ (arms_tokens defs arms ++ mark M.Close ∷ [])) ts)
+          (term_makes defs t (T.With ▸ N.Arms ▹ rest) (word (codes "with") ∷ ((arms_tokens defs arms ++ mark M.Close ∷ []) ++ ts)) h.0
+          (tok (is_word refl) (along (append_assoc (arms_tokens defs arms) (mark M.Close ∷ []) ts) (arms_make arms rest ts h.1 f)))))))
       code_makes (last c) rest ts h f = moved (in_code rest) (comp_makes c rest ts h f)
       code_makes (bind_select v t arms k) rest ts h f = absurd h
 
@@ -128,7 +126,7 @@ module _ (defs : Defs) where
       arms_make (more_arms p c more) rest ts h f =
           let after = mark M.Close ∷ ts in
           way 0 refl (tok (is_mark refl)
-              (along (append_assoc (pat_tokens defs p) (mark M.Gives ∷ word (codes "do") ∷ (code_tokens defs c ++ arms_tokens defs more)) after)
-              (pattern_makes defs p (T.Gives ▸ T.Do ▸ N.Code ▹ N.Arms ▹ rest) (mark M.Gives ∷ word (codes "do") ∷ ((code_tokens defs c ++ arms_tokens defs more) ++ after)) h.0
-              (tok (is_mark refl) (tok (is_word refl) (along (append_assoc (code_tokens defs c) (arms_tokens defs more) after)
-              (code_makes c (N.Arms ▹ rest) (arms_tokens defs more ++ after) h.1 (arms_make more rest ts h.2 f))))))))
+          (along (append_assoc (pat_tokens defs p) (mark M.Gives ∷ word (codes "do") ∷ (code_tokens defs c ++ arms_tokens defs more)) after)
+          (pattern_makes defs p (T.Gives ▸ T.Do ▸ N.Code ▹ N.Arms ▹ rest) (mark M.Gives ∷ word (codes "do") ∷ ((code_tokens defs c ++ arms_tokens defs more) ++ after)) h.0
+          (tok (is_mark refl) (tok (is_word refl) (along (append_assoc (code_tokens defs c) (arms_tokens defs more) after)
+          (code_makes c (N.Arms ▹ rest) (arms_tokens defs more ++ after) h.1 (arms_make more rest ts h.2 f))))))))

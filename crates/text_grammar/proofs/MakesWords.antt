@@ -1,6 +1,6 @@
 -- Words with numbers, and those of types and operators, as tokens of the grammar.
-use Rattle.std.proofs.Common.{◌≡◌, refl, sym, ap, ◌∙◌, ℕ, ◌+◌, ◌^◌, ◌<◌, ◌≤◌, lit≤, arith, Bool, true, false, List, [], ◌∷◌, ◌++◌, codes}
-use Rattle.std.specs.Prelude.{◌&&◌, pos, ℤ, bytes_eq}
+use Rattle.std.proofs.Common.{◌≡◌, refl, ap, ◌∙◌, ℕ, ◌^◌, ◌<◌, ◌≤◌, lit≤, arith, Bool, true, false, List, [], ◌∷◌, codes}
+use Rattle.std.specs.Prelude.{◌&&◌, pos, ℤ}
 use Rattle.std.specs.List.{list_all}
 use Rattle.std.specs.Char.{is_ascii_digit, digit_value}
 use Rattle.std.specs.Fmt.{decimal, signed_decimal}
@@ -18,7 +18,7 @@ use Rattle.pure_ast.specs.declared.comp.BoolOp.TheVariants as O
 use Rattle.text_meaning.specs.Names.{are_digits}
 use Rattle.text_meaning.specs.Ranges.{IsSmall}
 use Rattle.text_meaning.specs.SpelledNames.{var_token}
-use Rattle.text_meaning.specs.Tokens.{Token, word, number, loop_text, back_text}
+use Rattle.text_meaning.specs.Tokens.{word, number, loop_text, back_text}
 use Rattle.text_meaning.specs.Words.{int_word, arith_word, compare_word, bool_word}
 use Rattle.text_tokens.specs.declared.lexeme.LexemeKind.{LexemeKind}
 use Rattle.text_tokens.specs.declared.lexeme.LexemeKind.TheVariants as L
@@ -129,4 +129,3 @@ bool_good O.Not = refl
 
 pub is_bool : (op : BoolOp) → Matches T.BoolOperator (word (bool_word op))
 is_bool op = is_word (bool_good op)
-

@@ -10,18 +10,20 @@ use Rattle.text_grammar.specs.declared.table.Rule.{Rule}
 use Rattle.text_grammar.specs.Grammar.{followed, productions}
 use Rattle.text_grammar.specs.Tests.{passes}
 
--- the productions of a rule
+-- the production that an alternative is
 abbrev pub production : Alternative → List Symbol
 production a = S.Token a.first ∷ a.rest.now
 
--- the empty way
+-- the empty production
 abbrev pub nothing : List (List Symbol)
 nothing = [] ∷ []
 
+-- where a part may be empty
 abbrev pub perhaps_nothing : Bool → List (List Symbol)
 perhaps_nothing true = nothing
 perhaps_nothing false = []
 
+-- the productions of a rule
 abbrev pub ways : Rule → List (List Symbol)
 ways r = followed (map production r.shared.now) r.then.now ++ (map production r.own.now ++ perhaps_nothing r.may_be_empty)
 

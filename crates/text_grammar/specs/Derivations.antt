@@ -12,6 +12,7 @@ use Rattle.text_grammar.specs.Tests.{passes}
 abbrev pub Tokens : Type 0
 Tokens = List Lexeme
 
+-- an item of a list
 abbrev pub IsOneOf : {A : Type 0} → A → List A → Type 0
 IsOneOf x [] = ⊥
 IsOneOf x (y ∷ ys) = (x ≡ y) ⊎ IsOneOf x ys
@@ -25,6 +26,7 @@ pub data Derives : List Symbol → Tokens → Type 0 where
   part : {n : Nonterminal} {rest : List Symbol} {ls : Tokens} (p : List Symbol) →
       IsOneOf p (productions n) → Derives (p ++ rest) ls → Derives (S.Part n ∷ rest) ls
 
+-- a whole text
 abbrev pub start : List Symbol
 start = S.Part N.Text ∷ []
 

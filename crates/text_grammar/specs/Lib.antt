@@ -2,3 +2,4 @@ pub mod Tests
 pub mod Grammar
 pub mod Derivations
 pub mod Choices
+pub mod Laws

@@ -50,6 +50,7 @@ int_operators =
 abbrev pub bool_operators : List (List ℕ)
 bool_operators = codes "eq" ∷ codes "ne" ∷ codes "and" ∷ codes "or" ∷ codes "xor" ∷ codes "not" ∷ []
 
+-- which lexemes a token of the grammar is
 abbrev pub test_of : Terminal → Test
 test_of T.True = words (codes "true" ∷ [])
 test_of T.False = words (codes "false" ∷ [])
@@ -113,5 +114,6 @@ test_of T.To = mark M.To
 test_of T.From = mark M.From
 test_of T.Times = mark M.Times
 
+-- whether a lexeme is this token of the grammar
 abbrev pub passes : Terminal → LexemeKind → Bool
 passes t kind = meets (test_of t) kind

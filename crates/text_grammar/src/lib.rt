@@ -2,6 +2,7 @@
 #![tactic(auto)]
 
 mod bare;
+mod laws;
 mod recognizer;
 mod symbol;
 mod table;
@@ -10,4 +11,5 @@ mod tests;
 mod words;
 
 pub use bare::is_bare;
+pub use laws::spellings_are_grammatical;
 pub use recognizer::grammar_fault;

@@ -1,3 +1,4 @@
+-- The alternatives before this one do not begin with the lexeme.
 use Rattle.std.proofs.Common.{◌≡◌, map, drop}
 use Rattle.text_grammar.specs.Choices as spec
 use Rattle.text_grammar.proofs.recognizer.choose.Given as goal

@@ -1,3 +1,4 @@
+-- What is put there is what the rule's productions choose.
 use Rattle.std.proofs.Common.{sym, reverse}
 use Rattle.text_grammar.proofs.Rules.{expands_shared, expands_own, expands_not}
 use Rattle.text_grammar.proofs.recognizer.expand.Goals as goal

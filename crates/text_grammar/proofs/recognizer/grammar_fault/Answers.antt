@@ -1,3 +1,4 @@
+-- The place that the steps give is the first at which the grammar is left.
 use Rattle.std.proofs.Common.{sym, subst, ℕ, Option, MatchOption}
 use Rattle.text_grammar.specs.Derivations.{IsGrammatical, IsGrammarFault}
 use Rattle.text_grammar.proofs.Exact.{exact}

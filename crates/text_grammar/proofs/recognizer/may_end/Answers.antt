@@ -1,3 +1,4 @@
+-- The newest symbol is left out where it may be empty.
 use Rattle.std.proofs.Common.{sym, reverse, true, false}
 use Rattle.text_grammar.specs.Choices.{may_end}
 use Rattle.text_grammar.proofs.Stepping.{ends_part}

@@ -1,3 +1,4 @@
+-- The symbols that were left out may all be empty.
 use Rattle.std.proofs.Common.{◌≡◌, reverse, length}
 use Rattle.text_grammar.specs.Choices as spec
 use Rattle.text_grammar.proofs.recognizer.may_end.Given as goal

@@ -1,3 +1,4 @@
+-- The symbols so far stand there, the last one first.
 use Rattle.std.proofs.Common.{◌≡◌, ◌++◌, map}
 use Rattle.text_grammar.proofs.recognizer.put.Given as goal
 

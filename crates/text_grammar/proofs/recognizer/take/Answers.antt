@@ -1,3 +1,4 @@
+-- A part is replaced or left out as a step does it.
 use Rattle.std.proofs.Common.{reverse}
 use Rattle.text_grammar.specs.Choices.{step}
 use Rattle.text_grammar.proofs.Stepping.{takes_it, takes_not, goes_on}

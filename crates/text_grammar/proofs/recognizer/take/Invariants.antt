@@ -1,3 +1,4 @@
+-- The symbols that were left out take no part in the step.
 use Rattle.std.proofs.Common.{◌≡◌, reverse, length}
 use Rattle.text_grammar.specs.Choices as spec
 use Rattle.text_grammar.proofs.recognizer.take.Given as goal

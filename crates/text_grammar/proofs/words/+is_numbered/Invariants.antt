@@ -1,3 +1,4 @@
+-- The prefix becomes shorter.
 use Rattle.std.proofs.Common.{length}
 use Rattle.text_grammar.proofs.words.+is_numbered.Given as goal
 
