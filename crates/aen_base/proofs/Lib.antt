@@ -1,3 +1,4 @@
 pub mod LowBits
 pub mod Results
 pub mod Sizes
+pub mod Inside

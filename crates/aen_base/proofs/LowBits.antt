@@ -6,7 +6,7 @@ use Rattle.aen_base.specs.Numbers.{width}
 use Rattle.aen_base.specs.Arithmetic.{low_bits, bits_of}
 
 -- k bits are a number below 2 to the power of k
-low_bits_below : (k : ℕ) (z : ℤ) → low_bits k z < 2 ^ k
+pub low_bits_below : (k : ℕ) (z : ℤ) → low_bits k z < 2 ^ k
 low_bits_below k (pos n) = mod_below n (2 ^ k) (pow_pos k)
 low_bits_below k (negsuc n) = let p : 0 < 2 ^ k = pow_pos k in omega arith
 

@@ -4,3 +4,9 @@ pub mod Matching
 pub mod Operations
 pub mod Weights
 pub mod Meanings
+pub mod Kept
+pub mod KeptTerms
+pub mod KeptPatterns
+pub mod KeptPrimitives
+pub mod KeptCode
+pub mod Keeping

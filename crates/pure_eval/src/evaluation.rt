@@ -1,5 +1,10 @@
 ghost use Rattle.std.specs.Prelude.{◌≡◌, IfOk};
+ghost use Rattle.pure_ast.specs.Values as v;
+ghost use Rattle.text_meaning.specs.declared.Answer.TheVariants as A;
+ghost use Rattle.text_meaning.specs.Atoms.{IsAtom};
 ghost use Rattle.text_meaning.specs.Evaluate.{evaluate};
+ghost use Rattle.text_meaning.specs.Lists.{Each};
+ghost use Rattle.text_meaning.specs.WellFormed.{IsWellFormed};
 ghost use Rattle.pure_eval.specs.Unwinding.{turn_answer, state_answer};
 
 use crate::copies::copy_values;
@@ -21,7 +26,10 @@ pub fn eval(
     args: &[PValue],
     n: u64,
 ) -> Result<Answer, NoMem>
-    ensures { IfOk result (λ a. a ≡ evaluate defs.now def.0 args.now n) }
+    ensures answer { IfOk result (λ a. a ≡ evaluate defs.now def.0 args.now n) }
+    // A value that well-formed definitions give on atoms is an atom.
+    ensures kept { IfOk result (λ a. IsWellFormed defs.now → Each (IsAtom defs.now) args.now →
+        (value : v.PValue) → a ≡ A.Ok value → IsAtom defs.now value) }
 {
     let values = copy_values(alloc, args)?;
     match enter(alloc, defs, def, values, n)? {

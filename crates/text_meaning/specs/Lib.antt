@@ -28,4 +28,5 @@ pub mod ShownCode
 pub mod Shown
 pub mod ShownLemmas
 pub mod ValueTerms
+pub mod Atoms
 pub mod HasType
