@@ -1,13 +1,15 @@
 //! What a text declares, found by name.
 
-ghost use Rattle.std.specs.Prelude.{◌≡◌, IfOk};
+ghost use Rattle.std.specs.Prelude.{◌≡◌, true, IfOk};
+ghost use Rattle.std.specs.List.{list_all};
+ghost use Rattle.lean_reader.specs.Fitting as fitting;
 ghost use Rattle.lean_reader.specs.Outlines as outlines;
 ghost use Rattle.lean_reader.specs.Tests as tests;
 
 use crate::by_name::ByName;
 use crate::kinds::{ByKind, KindKey};
 use crate::named::Named;
-use crate::outline::{Outline, TypeHead, VariantHead};
+use crate::outline::{DefinitionHead, Outline, TypeHead, VariantHead};
 use aen_base::{List, Name, NoMem, TypeId};
 use pure_ast::CtorId;
 use std::alloc::Global;
@@ -56,6 +58,15 @@ impl TypeTable {
     {
         let (place, variant) = self.variants.find(name)?;
         Some((CtorId::Of(TypeId(ty), place), variant.fields))
+    }
+}
+
+impl TypeTable {
+    /// Whether the names of its variants differ.
+    fn variants_differ(&self) -> bool
+        ensures { result ≡ fitting.variants_differ self.now }
+    {
+        self.variants.all_differ()
     }
 }
 
@@ -160,4 +171,51 @@ impl Tables {
             back,
         })
     }
+
+    /// Whether names are names and differ, functions are in order, and kinds differ.
+    #[tactic(auto, unfolding(crate::specs::Fitting::fits))]
+    pub(crate) fn fits(&self, alloc: Global) -> Result<bool, NoMem>
+        ensures { IfOk result (λ b. b ≡ fitting.fits self.now) }
+    {
+        if !self.types.are_names(alloc)? || !all_variants_differ(self.types.as_slice()) {
+            return Ok(false);
+        }
+        if !self.functions.are_names(alloc)? {
+            return Ok(false);
+        }
+        if !are_in_order(self.definitions.as_slice(), self.functions.as_slice().len()) {
+            return Ok(false);
+        }
+        Ok(self.definitions.kinds_differ())
+    }
+}
+
+/// Whether the names of each type's variants differ.
+fn all_variants_differ(types: &[TypeTable]) -> bool
+    ensures { result ≡ list_all fitting.variants_differ types.now }
+{
+    for ty in types {
+        if !ty.variants_differ() {
+            return false;
+        }
+    }
+    true
+}
+
+/// Whether functions are numbered in the order of their first definitions, up to the count.
+fn are_in_order(heads: &[DefinitionHead], count: usize) -> bool
+    ensures order { result ≡ fitting.are_in_order 0 heads.now count }
+    ensures small { result ≡ true → list_all fitting.is_small_head heads.now ≡ true }
+{
+    let mut next = 0;
+    for head in heads {
+        let function = KindKey::of(&head.kind).function as usize;
+        if function > next {
+            return false;
+        }
+        if function == next {
+            next += 1;
+        }
+    }
+    next == count
 }
