@@ -41,3 +41,4 @@ pub mod Skipping
 pub mod TypesOutlined
 pub mod DefinitionsOutlined
 pub mod Whole
+pub mod Matched

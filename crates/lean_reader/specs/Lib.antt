@@ -23,3 +23,4 @@ pub mod Kinds
 pub mod Signs
 pub mod Outlining
 pub mod Fitting
+pub mod Matching

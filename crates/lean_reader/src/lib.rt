@@ -13,6 +13,7 @@ mod fault;
 mod frames;
 mod kinds;
 mod laws;
+mod matching;
 mod named;
 mod names;
 mod outline;
@@ -23,6 +24,7 @@ mod signs;
 mod spelled;
 mod tables;
 mod tests;
+mod type_table;
 mod variables;
 mod words;
 

@@ -41,7 +41,11 @@ fn have_names<T: Named>(alloc: Global, items: &[T]) -> Result<bool, NoMem>
 
 /// Whether these have names that are names and differ, by the table of their places.
 #[tactic(auto, unfolding(crate::specs::Tests::are_names))]
-pub(crate) fn are_named_apart<T: Named>(alloc: Global, table: &IndexMap<Name, u32>, items: &[T]) -> Result<bool, NoMem>
+pub(crate) fn are_named_apart<T: Named>(
+    alloc: Global,
+    table: &IndexMap<Name, u32>,
+    items: &[T],
+) -> Result<bool, NoMem>
     requires { (w : List ℕ) → get bytes_eq table.now w ≡ place_by bytes_eq (map T.name_of items.now) w }
     ensures { IfOk result (λ b. b ≡ spec.are_names (map T.name_of items.now)) }
 {

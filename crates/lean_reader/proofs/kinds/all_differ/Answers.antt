@@ -13,7 +13,7 @@ returns-then-not-stands_at c =
     let x : DefinitionHead = get_or c.args.heads.now c.loop-place.place none in
     let l : c.loop-place.place < length c.args.heads.now = omega arith in
     sym (stands_not key.eq-value.it head_key c.args.heads.now c.loop-place.place x none c.of.result (get key.eq-value.it c.args.table.now) c.stands_at.result l refl c.of.ensures.key c.requires
-      c.stands_at.ensures key_itself c.if-not-stands_at.true) ∙ differ_kinds c.args.heads.now
+    c.stands_at.ensures key_itself c.if-not-stands_at.true) ∙ differ_kinds c.args.heads.now
 
 pub loop-place-preserved : goal.loop-place-preserved
 loop-place-preserved c =
@@ -21,7 +21,7 @@ loop-place-preserved c =
     let x : DefinitionHead = get_or c.args.heads.now c.loop-place.place none in
     let l : c.loop-place.place < length c.args.heads.now = omega arith in
     stands_next key.eq-value.it head_key c.args.heads.now c.loop-place.place x none c.of.result (get key.eq-value.it c.args.table.now) c.stands_at.result l refl c.of.ensures.key c.requires
-      c.stands_at.ensures c.if-not-stands_at.false c.loop-place.invariant
+    c.stands_at.ensures c.if-not-stands_at.false c.loop-place.invariant
 
 pub returns : goal.returns
 returns c =

@@ -8,14 +8,14 @@ returns-then-not-stands_at g c =
     let x = c.index-items-place.result in
     let l : c.loop-place.place < length c.args.items.now = omega arith in
     sym (stands_not bytes_eq g.T.Named.name_of c.args.items.now c.loop-place.place x x c.name.result.now (get bytes_eq c.args.table.now) c.stands_at.result l c.index-items-place.is c.name.ensures c.requires
-      c.stands_at.ensures name_itself c.if-not-stands_at.true) ∙ differ_names (map g.T.Named.name_of c.args.items.now)
+    c.stands_at.ensures name_itself c.if-not-stands_at.true) ∙ differ_names (map g.T.Named.name_of c.args.items.now)
 
 pub loop-place-preserved : goal.loop-place-preserved
 loop-place-preserved g c =
     let x = c.index-items-place.result in
     let l : c.loop-place.place < length c.args.items.now = omega arith in
     stands_next bytes_eq g.T.Named.name_of c.args.items.now c.loop-place.place x x c.name.result.now (get bytes_eq c.args.table.now) c.stands_at.result l c.index-items-place.is c.name.ensures c.requires
-      c.stands_at.ensures c.if-not-stands_at.false c.loop-place.invariant
+    c.stands_at.ensures c.if-not-stands_at.false c.loop-place.invariant
 
 pub returns : goal.returns
 returns g c =

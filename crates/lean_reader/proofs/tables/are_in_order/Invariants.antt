@@ -1,4 +1,4 @@
-use Rattle.std.proofs.Common.{◌≡◌, ◌≤◌, drop, true}
+use Rattle.std.proofs.Common.{◌≡◌, ◌≤◌, drop}
 use Rattle.std.specs.List.{list_all}
 use Rattle.lean_reader.specs.Fitting as f
 use Rattle.lean_reader.proofs.tables.are_in_order.Given as goal
