@@ -20,7 +20,7 @@ with_false : (b : Bool) → false ≡ (b && false)
 with_false true = refl
 with_false false = refl
 
-same_key : (a b : DefKind) → same_kind a b ≡ e.eq-value.it (key_of a) (key_of b)
+pub same_key : (a b : DefKind) → same_kind a b ≡ e.eq-value.it (key_of a) (key_of b)
 same_key (K.Forward f) (K.Forward g) = with_true (f.0 == g.0)
 same_key (K.Back f r) (K.Back g s) = refl
 same_key (K.Loop f k) (K.Loop g l) = ap (λ b. (f.0 == g.0) && b) (with_true (k.0 == l.0))

@@ -56,3 +56,5 @@ pub mod DefinitionsOutlined
 pub mod WholeTexts
 pub mod LexemesRead
 pub mod TextsRead
+pub mod Whole
+pub mod Matched

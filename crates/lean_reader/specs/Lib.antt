@@ -34,3 +34,4 @@ pub mod Fitting
 pub mod ValueWords
 pub mod Lexemes
 pub mod Reading
+pub mod Matching

@@ -5,7 +5,8 @@ ghost use Rattle.std.specs.Option.{option_map};
 ghost use Rattle.lean_reader.specs.Finding as finding;
 ghost use Rattle.lean_reader.specs.Tests as tests;
 
-use crate::named::{Named, enter, places_of};
+use crate::named::{Named, all_differ, enter, places_of};
+use crate::tests::are_named_apart;
 use aen_base::{List, Name, NoMem, at};
 use indexmap::IndexMap;
 use std::alloc::Global;
@@ -66,6 +67,20 @@ impl<T: Named> ByName<T> {
         let place = self.place_of(name)?;
         let item = at(self.items.as_slice(), place as usize)?;
         Some((place, item))
+    }
+
+    /// Whether all names differ.
+    pub(crate) fn all_differ(&self) -> bool
+        ensures { result ≡ tests.all_differ (map T.name_of self.now) }
+    {
+        all_differ(&self.table, self.items.as_slice())
+    }
+
+    /// Whether all names are names, and differ. The only error is want of memory.
+    pub(crate) fn are_names(&self, alloc: Global) -> Result<bool, NoMem>
+        ensures { IfOk result (λ b. b ≡ tests.are_names (map T.name_of self.now)) }
+    {
+        Ok(are_named_apart(alloc, &self.table, self.items.as_slice())?)
     }
 
     /// The list without its table.

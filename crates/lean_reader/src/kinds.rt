@@ -1,10 +1,12 @@
 //! Definitions, found by what they are for.
 
-ghost use Rattle.std.specs.Prelude.{◌≡◌, Some, None, if◌then◌else◌, map, IfOk, OnOk};
+ghost use Rattle.std.specs.Prelude.{◌≡◌, true, Some, None, if◌then◌else◌, map, nat_lt, ◌^◌, IfSome, IfOk, OnOk};
 ghost use Rattle.std.specs.Option.{option_or};
 ghost use Rattle.indexmap.specs.IndexMap.{get};
+ghost use Rattle.text_meaning.specs.WellFormed.{function_of};
+ghost use Rattle.lean_reader.specs.Fitting.{is_small_kind, kinds_differ};
 ghost use Rattle.lean_reader.specs.Kinds as spec;
-ghost use Rattle.lean_reader.specs.Places.{place_by};
+ghost use Rattle.lean_reader.specs.Places.{place_by, is_place};
 
 use crate::outline::DefinitionHead;
 use aen_base::{List, NoMem, at};
@@ -24,30 +26,29 @@ pub(crate) struct KindKey {
 impl KindKey {
     /// The key of a definition's kind.
     pub(crate) fn of(kind: &DefKind) -> KindKey
-        ensures { result ≡ spec.key_of kind.now }
+        ensures key { result ≡ spec.key_of kind.now }
+        ensures function { result.function ≡ function_of kind.now }
+        ensures small { is_small_kind kind.now ≡ true }
     {
         match kind {
-            DefKind::Forward(f) => KindKey {
-                function: f.0,
-                turn: None,
-                back: None,
-            },
-            DefKind::Back(f, r) => KindKey {
-                function: f.0,
-                turn: None,
-                back: Some(r.0),
-            },
-            DefKind::Loop(f, k) => KindKey {
-                function: f.0,
-                turn: Some(k.0),
-                back: None,
-            },
-            DefKind::LoopBack(f, k, c) => KindKey {
-                function: f.0,
-                turn: Some(k.0),
-                back: Some(*c),
-            },
+            DefKind::Forward(f) => key(f.0, None, None),
+            DefKind::Back(f, r) => key(f.0, None, Some(r.0)),
+            DefKind::Loop(f, k) => key(f.0, Some(k.0), None),
+            DefKind::LoopBack(f, k, c) => key(f.0, Some(k.0), Some(*c)),
         }
+    }
+}
+
+/// The key with these parts, whose numbers are small.
+fn key(function: u32, turn: Option<u32>, back: Option<u32>) -> KindKey
+    ensures key { result ≡ spec.key function turn back }
+    ensures turn { IfSome turn (λ n. nat_lt n (2 ^ 32) ≡ true) }
+    ensures back { IfSome back (λ n. nat_lt n (2 ^ 32) ≡ true) }
+{
+    KindKey {
+        function,
+        turn,
+        back,
     }
 }
 
@@ -73,6 +74,29 @@ fn places_of(alloc: Global, heads: &[DefinitionHead]) -> Result<IndexMap<KindKey
         enter(&mut table, KindKey::of(&heads[place].kind), number)?;
     }
     Ok(table)
+}
+
+/// Whether this is the place of a key.
+fn stands_at(table: &IndexMap<KindKey, u32>, key: KindKey, place: usize) -> bool
+    ensures { result ≡ is_place (get ⟦<KindKey as PartialEq>⟧.eq table.now key) place }
+{
+    match table.get(&key) {
+        None => false,
+        Some(first) => *first as usize == place,
+    }
+}
+
+/// Whether all kinds differ, by the table of their places.
+fn all_differ(table: &IndexMap<KindKey, u32>, heads: &[DefinitionHead]) -> bool
+    requires { (k : KindKey) → get ⟦<KindKey as PartialEq>⟧.eq table.now k ≡ place_by ⟦<KindKey as PartialEq>⟧.eq (map spec.head_key heads.now) k }
+    ensures { result ≡ kinds_differ heads.now }
+{
+    for place in 0..heads.len() {
+        if !stands_at(table, KindKey::of(&heads[place].kind), place) {
+            return false;
+        }
+    }
+    true
 }
 
 /// Definitions that are found by their kinds: contracts see their heads in order.
@@ -116,6 +140,13 @@ impl ByKind {
         ensures { result.now ≡ self.now }
     {
         self.heads.as_slice()
+    }
+
+    /// Whether all kinds differ: each definition is then the first of its kind.
+    pub(crate) fn kinds_differ(&self) -> bool
+        ensures { result ≡ kinds_differ self.now }
+    {
+        all_differ(&self.table, self.heads.as_slice())
     }
 
     /// The place of the first definition of this kind, with its number of parameters.

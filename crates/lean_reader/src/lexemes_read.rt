@@ -22,7 +22,7 @@ pub(crate) fn read_lexemes(alloc: Global, tokens: &[Lexeme]) -> Result<Defs, Rea
     }
     let mut reader = Reader { tokens };
     let (types, defs) = reader.text(alloc, &tables)?;
-    if !tables.are_of(types.as_slice(), defs.as_slice())? {
+    if !tables.is_outline_of(types.as_slice(), defs.as_slice()) {
         return Err(ReadFault::Syntax);
     }
     let names = tables.into_functions();

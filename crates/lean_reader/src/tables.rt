@@ -1,71 +1,21 @@
 //! What a text declares, found by name.
 
-ghost use Rattle.std.specs.Prelude.{◌≡◌, IfOk};
+ghost use Rattle.std.specs.Prelude.{◌≡◌, ◌↔◌, true, IfOk, IsTrue};
+ghost use Rattle.std.specs.List.{list_all};
+ghost use Rattle.lean_reader.specs.Fitting as fitting;
+ghost use Rattle.lean_reader.specs.Matching as matching;
 ghost use Rattle.lean_reader.specs.Outlines as outlines;
 ghost use Rattle.lean_reader.specs.Tests as tests;
 
 use crate::by_name::ByName;
 use crate::kinds::{ByKind, KindKey};
-use crate::named::Named;
-use crate::outline::{Outline, TypeHead, VariantHead};
-use aen_base::{List, Name, NoMem, TypeId};
-use pure_ast::CtorId;
+use crate::matching::all_match;
+use crate::outline::{DefinitionHead, Outline};
+use crate::type_table::{TypeTable, all_variants_differ, type_tables};
+use aen_base::{Name, NoMem};
+use pure_ast::{CtorId, Def, PType};
 use std::alloc::Global;
 use std::marker::Model;
-
-/// A type whose variants are found by their names: contracts see its head.
-#[derive(Drop)]
-pub(crate) struct TypeTable {
-    name: Name,
-    parameters: usize,
-    variants: ByName<VariantHead>,
-}
-
-impl Model for TypeTable {
-    ghost use Rattle.lean_reader.specs.declared.outline.TypeHead.{TypeHead};
-    ghost use Rattle.lean_reader.specs.contracts.outline.TypeHead as head;
-
-    ghost Value = { TypeHead };
-
-    ghost coded = { head.the_row.coded };
-
-    ghost view = { λ s. record { name = s.name; parameters = s.parameters; variants = s.variants } };
-}
-
-impl TypeTable {
-    /// The type's variants with their table. The only error is want of memory.
-    fn new(alloc: Global, head: TypeHead) -> Result<TypeTable, NoMem>
-        ensures { IfOk result (λ t. t ≡ head) }
-    {
-        let TypeHead {
-            name,
-            parameters,
-            variants,
-        } = head;
-        let variants = ByName::new(alloc, variants)?;
-        Ok(TypeTable {
-            name,
-            parameters,
-            variants,
-        })
-    }
-
-    /// The first variant of this name of the type with this number, with its number of fields.
-    fn variant_of(&self, ty: u32, name: &Name) -> Option<(CtorId, usize)>
-        ensures { result ≡ outlines.variant_of ty self.now.variants name.now }
-    {
-        let (place, variant) = self.variants.find(name)?;
-        Some((CtorId::Of(TypeId(ty), place), variant.fields))
-    }
-}
-
-impl Named for TypeTable {
-    ghost name_of = { λ t. t.name };
-
-    fn name(&self) -> &Name {
-        &self.name
-    }
-}
 
 /// What a text declares: contracts see its outline.
 #[derive(Drop)]
@@ -84,19 +34,6 @@ impl Model for Tables {
     ghost coded = { outline.the_row.coded };
 
     ghost view = { λ s. record { types = s.types; functions = s.functions; definitions = s.definitions } };
-}
-
-/// Types with the tables of their variants. The only error is want of memory.
-fn type_tables(alloc: Global, heads: List<TypeHead>) -> Result<List<TypeTable>, NoMem>
-    ensures { IfOk result (λ ts. ts ≡ heads) }
-{
-    let mut heads = heads;
-    let mut types = Vec::new(alloc);
-    while let Some(head) = heads.pop() {
-        types.push(TypeTable::new(alloc, head)?)?;
-    }
-    types.reverse();
-    Ok(List::from_vec(types))
 }
 
 impl Tables {
@@ -172,4 +109,54 @@ impl Tables {
         } = self;
         functions.into_items()
     }
+
+    /// Whether its heads are those of these types and definitions, part by part.
+    fn matches(&self, types: &[PType], definitions: &[Def]) -> bool
+        ensures { result ≡ matching.is_outline self.now types.now definitions.now }
+    {
+        all_match(self.types.as_slice(), types)
+            && all_match(self.definitions.as_slice(), definitions)
+    }
+
+    /// Whether this is the outline of these types and definitions.
+    pub(crate) fn is_outline_of(&self, types: &[PType], definitions: &[Def]) -> bool
+        ensures { IsTrue result ↔ (outlines.outline_of (matching.defs_of types.now self.now.functions definitions.now) ≡ self.now) }
+    {
+        self.matches(types, definitions)
+    }
+
+    /// Whether names are names and differ, functions are in order, and kinds differ.
+    #[tactic(auto, unfolding(crate::specs::Fitting::fits))]
+    pub(crate) fn fits(&self, alloc: Global) -> Result<bool, NoMem>
+        ensures { IfOk result (λ b. b ≡ fitting.fits self.now) }
+    {
+        if !self.types.are_names(alloc)? || !all_variants_differ(self.types.as_slice()) {
+            return Ok(false);
+        }
+        if !self.functions.are_names(alloc)? {
+            return Ok(false);
+        }
+        if !are_in_order(self.definitions.as_slice(), self.functions.as_slice().len()) {
+            return Ok(false);
+        }
+        Ok(self.definitions.kinds_differ())
+    }
+}
+
+/// Whether functions are numbered in the order of their first definitions, up to the count.
+fn are_in_order(heads: &[DefinitionHead], count: usize) -> bool
+    ensures order { result ≡ fitting.are_in_order 0 heads.now count }
+    ensures small { result ≡ true → list_all fitting.is_small_head heads.now ≡ true }
+{
+    let mut next = 0;
+    for head in heads {
+        let function = KindKey::of(&head.kind).function as usize;
+        if function > next {
+            return false;
+        }
+        if function == next {
+            next += 1;
+        }
+    }
+    next == count
 }

@@ -14,4 +14,4 @@ loop-place-preserved c w =
     let none : DefinitionHead = record { kind = Forward (record { 0 = 0 }); parameters = 0 } in
     let x : DefinitionHead = get_or c.args.heads.now c.loop-place.place none in
     entered key.eq-value.it head_key c.args.heads.now c.loop-place.place x none c.of.result c.in-Ok.number (get key.eq-value.it c.loop-place.table) (get key.eq-value.it c.enter.new.table)
-    l refl c.of.ensures n c.in_ok-enter.ensures c.loop-place.invariant w
+    l refl c.of.ensures.key n c.in_ok-enter.ensures c.loop-place.invariant w
