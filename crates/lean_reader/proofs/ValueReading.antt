@@ -131,7 +131,7 @@ module _ (d : Defs) (e : Environment) (agree : Agrees e d) (ls : Tokens) (text :
   piece_sound : (t : PTy) → type_of e ls ≡ Some t → IsPiece d text t
   piece_sound t h =
       let a = if_some (few_lexemes 0 ls) (whole (type e (place_of []) ls)) t h in
-      let r = type_sound e d [] (place_of []) agree no_places ls [] t (whole_some (type e (place_of []) ls) t a.1) in
+      let r = type_sound d [] e agree (place_of []) no_places ls [] t (whole_some (type e (place_of []) ls) t a.1) in
       let stand = stands_all ls (type_tokens d [] t) r.0 in
       record {
         tokens = (lexed (type_tokens d [] t) (type_proper d [] t)).1 stand;
