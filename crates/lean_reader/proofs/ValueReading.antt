@@ -66,7 +66,7 @@ few_same [] (t ∷ ts) held h = absurd h
 few_same (l ∷ ls) [] held h = absurd h
 few_same (l ∷ ls) (t ∷ ts) held h =
     (λ i. if mark_same M.Open l.kind t h.0 i then nat_lt held 10000 && few_same ls ts (suc held) h.1 i
-          else (if mark_same M.Close l.kind t h.0 i then few_same ls ts (held - 1) h.1 i else few_same ls ts held h.1 i))
+    else (if mark_same M.Close l.kind t h.0 i then few_same ls ts (held - 1) h.1 i else few_same ls ts held h.1 i))
 
 -- what gives a value gives it in each step
 if_some : {A : Type 0} (b : Bool) (o : Option A) (x : A) → (if b then o else None) ≡ Some x → (b ≡ true) × (o ≡ Some x)

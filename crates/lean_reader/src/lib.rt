@@ -49,8 +49,8 @@ mod whole;
 mod word_reading;
 mod words;
 
-pub(crate) use fault::ReadFault;
 pub use arguments::{WordFault, read_args};
+pub(crate) use fault::ReadFault;
 pub use laws::texts_are_read_whole;
 pub use naming_words::def_named;
 pub use values::print_atom;

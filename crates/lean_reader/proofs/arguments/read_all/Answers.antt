@@ -13,4 +13,4 @@ returns c =
     let args = match_some c.in_ok-args.field-0 c.in-Some.args ((a : List PTy) → AreTypeArguments d x pieces a → ⊥) (λ a. AreTypeArguments d x pieces a) c.in-Some.is c.in_ok-args.ensures in
     reading_at d x pieces words c.in-Some.args c.read_values.result args
     (subst (λ ts. IsReading d ts words c.read_values.result)
-      (c.as_slice-3.ensures ∙ c.in_ok-types.ensures ∙ (λ i. map (put_in (c.as_slice.ensures i)) (c.as_slice-2.ensures i))) c.read_values.ensures)
+    (c.as_slice-3.ensures ∙ c.in_ok-types.ensures ∙ (λ i. map (put_in (c.as_slice.ensures i)) (c.as_slice-2.ensures i))) c.read_values.ensures)
