@@ -1,5 +1,5 @@
 -- Words and pieces one by one.
-use Rattle.std.proofs.Common.{◌≡◌, refl, ap, sym, ◌∙◌, subst, ℕ, zero, suc, ◌+◌, ◌<◌, List, [], ◌∷◌, ◌++◌, length, take, get_or, map, arith}
+use Rattle.std.proofs.Common.{◌≡◌, ap, sym, ◌∙◌, subst, ℕ, zero, suc, ◌+◌, ◌<◌, List, [], ◌∷◌, ◌++◌, length, take, get_or, map, arith}
 use Rattle.std.specs.Prelude.{slice_get, Option, Some, None, Result, Ok, Err, MatchOption}
 use Rattle.std.proofs.lemmas.Option.{same_Some}
 use Rattle.pure_ast.specs.declared.def.Def.{Def}

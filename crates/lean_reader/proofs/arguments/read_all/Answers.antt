@@ -1,4 +1,4 @@
-use Rattle.std.proofs.Common.{◌≡◌, ◌∙◌, subst, map, List}
+use Rattle.std.proofs.Common.{◌∙◌, subst, map, List}
 use Rattle.std.specs.String.{string_bytes}
 use Rattle.pure_ast.specs.Types.{PTy}
 use Rattle.text_meaning.specs.HasType.{put_in}

@@ -1,4 +1,4 @@
-use Rattle.std.proofs.Common.{◌≡◌, sym, subst, map}
+use Rattle.std.proofs.Common.{sym, subst, map}
 use Rattle.std.specs.String.{string_bytes}
 use Rattle.pure_ast.specs.Types.{PTy}
 use Rattle.lean_reader.specs.ValueWords.{IsPiece}

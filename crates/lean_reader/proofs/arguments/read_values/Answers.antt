@@ -1,4 +1,4 @@
-use Rattle.std.proofs.Common.{◌≡◌, sym, subst, map, arith}
+use Rattle.std.proofs.Common.{subst, map, arith}
 use Rattle.std.specs.String.{string_bytes}
 use Rattle.pure_ast.specs.Values.{PValue}
 use Rattle.lean_reader.specs.ValueWords.{IsWord}

@@ -1,6 +1,6 @@
 use Rattle.std.proofs.Common.{◌∙◌, ap, sym}
 use Rattle.text_meaning.specs.ShownNames.{kind_text}
-use Rattle.lean_reader.specs.Pieces.{after, is_end}
+use Rattle.lean_reader.specs.Pieces.{is_end}
 use Rattle.lean_reader.proofs.Pieces.{ended, ends}
 use Rattle.lean_reader.proofs.naming_words.is_printed.Goals as goal
 
