@@ -1,5 +1,5 @@
 -- Words and pieces one by one.
-use Rattle.std.proofs.Common.{◌≡◌, refl, ap, sym, ◌∙◌, subst, ℕ, zero, suc, ◌+◌, ◌<◌, List, [], ◌∷◌, ◌++◌, length, take, get_or, map, arith}
+use Rattle.std.proofs.Common.{◌≡◌, ap, sym, ◌∙◌, subst, ℕ, zero, suc, ◌+◌, ◌<◌, List, [], ◌∷◌, ◌++◌, length, take, get_or, map, arith}
 use Rattle.std.specs.Prelude.{slice_get, Option, Some, None, Result, Ok, Err, MatchOption}
 use Rattle.std.proofs.lemmas.Option.{same_Some}
 use Rattle.pure_ast.specs.declared.def.Def.{Def}
@@ -72,3 +72,12 @@ reading_at d x pieces words args (Err (W.WrongCount e g)) a h = (args, (a, h))
 reading_at d x pieces words args (Err (W.BadValue i)) a h = (args, (a, h))
 reading_at d x pieces words args (Err W.Types) a h = absurd h
 reading_at d x pieces words args (Err W.Memory) a h = tt
+
+-- what a clause says of an option that is known
+pub match_none : {A : Type 0} (o : Option A) (N : Type 0) (P : A → Type 0) → o ≡ None → MatchOption o N P → N
+match_none None N P e h = h
+match_none (Some x) N P e h = absurd cc
+
+pub match_some : {A : Type 0} (o : Option A) (x : A) (N : Type 0) (P : A → Type 0) → o ≡ Some x → MatchOption o N P → P x
+match_some None x N P e h = absurd cc
+match_some (Some y) x N P e h = subst P (same_Some y x e) h

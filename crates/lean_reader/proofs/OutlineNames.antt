@@ -14,7 +14,6 @@ use Rattle.lean_reader.specs.declared.outline.TypeHead.{TypeHead}
 use Rattle.lean_reader.specs.declared.outline.VariantHead.{VariantHead}
 use Rattle.lean_reader.specs.Calls.{definition_name_of}
 use Rattle.lean_reader.specs.Definitions.{kind_of}
-use Rattle.lean_reader.specs.Environment.{Environment}
 use Rattle.lean_reader.specs.Finding.{find, type_in, variant_in, constructor_in}
 use Rattle.lean_reader.specs.Naming.{find_kind, same_kind, environment_of}
 use Rattle.lean_reader.specs.Types.{type_id}

@@ -2,9 +2,8 @@
 use Rattle.std.proofs.Common.{◌≡◌, refl, ap, sym, ◌∙◌, subst, ℕ, suc, ◌-◌, Bool, true, false, ◌&&◌, List, [], ◌∷◌, ◌++◌, append-nil, Option, Some, None, arith}
 use Rattle.std.specs.Prelude.{if◌then◌else◌, nat_lt, MatchOption, Result, IfOk, is_some}
 use Rattle.std.specs.Option.{option_and_then}
-use denote.Enum.Bare.{sameb, same_true, true_same}
+use denote.Enum.Bare.{sameb}
 use Rattle.pure_ast.specs.declared.def.Defs.{Defs}
-use Rattle.pure_ast.specs.Terms.{Term}
 use Rattle.pure_ast.specs.Types.{PTy}
 use Rattle.pure_ast.specs.Values.{PValue}
 use Rattle.text_meaning.specs.declared.mark.Mark.{Mark}
@@ -66,7 +65,7 @@ few_same [] (t ∷ ts) held h = absurd h
 few_same (l ∷ ls) [] held h = absurd h
 few_same (l ∷ ls) (t ∷ ts) held h =
     (λ i. if mark_same M.Open l.kind t h.0 i then nat_lt held 10000 && few_same ls ts (suc held) h.1 i
-          else (if mark_same M.Close l.kind t h.0 i then few_same ls ts (held - 1) h.1 i else few_same ls ts held h.1 i))
+    else (if mark_same M.Close l.kind t h.0 i then few_same ls ts (held - 1) h.1 i else few_same ls ts held h.1 i))
 
 -- what gives a value gives it in each step
 if_some : {A : Type 0} (b : Bool) (o : Option A) (x : A) → (if b then o else None) ≡ Some x → (b ≡ true) × (o ≡ Some x)
@@ -131,7 +130,7 @@ module _ (d : Defs) (e : Environment) (agree : Agrees e d) (ls : Tokens) (text :
   piece_sound : (t : PTy) → type_of e ls ≡ Some t → IsPiece d text t
   piece_sound t h =
       let a = if_some (few_lexemes 0 ls) (whole (type e (place_of []) ls)) t h in
-      let r = type_sound e d [] (place_of []) agree no_places ls [] t (whole_some (type e (place_of []) ls) t a.1) in
+      let r = type_sound d [] e agree (place_of []) no_places ls [] t (whole_some (type e (place_of []) ls) t a.1) in
       let stand = stands_all ls (type_tokens d [] t) r.0 in
       record {
         tokens = (lexed (type_tokens d [] t) (type_proper d [] t)).1 stand;

@@ -1,5 +1,5 @@
 -- Whether a value has a type, as a test; a term without variables as its value.
-use Rattle.std.specs.Prelude.{◌≡◌, ℕ, Bool, true, false, ◌&&◌, List, [], ◌∷◌, Option, Some, None}
+use Rattle.std.specs.Prelude.{Bool, true, false, ◌&&◌, List, [], ◌∷◌, Option, Some, None}
 use Rattle.std.specs.Option.{option_map, option_and_then}
 use denote.Enum.Bare.{sameb}
 use Rattle.aen_base.specs.declared.int_ty.IntTy.{IntTy}

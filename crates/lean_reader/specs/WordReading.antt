@@ -1,8 +1,7 @@
 -- Reading a word as a value, and a piece as a type.
-use Rattle.std.specs.Prelude.{ℕ, suc, ◌-◌, Bool, true, ◌&&◌, nat_lt, if◌then◌else◌, List, [], ◌∷◌, Option, Some, None}
+use Rattle.std.specs.Prelude.{ℕ, suc, ◌-◌, Bool, true, ◌&&◌, nat_lt, if◌then◌else◌, [], ◌∷◌, Option, Some, None}
 use Rattle.std.specs.Option.{option_and_then}
 use Rattle.pure_ast.specs.declared.def.Defs.{Defs}
-use Rattle.pure_ast.specs.Terms.{Term}
 use Rattle.pure_ast.specs.Types.{PTy}
 use Rattle.pure_ast.specs.Values.{PValue}
 use Rattle.text_meaning.specs.declared.mark.Mark.TheVariants as M

@@ -63,8 +63,8 @@ mod whole_tests;
 mod word_reading;
 mod words;
 
-pub(crate) use fault::ReadFault;
 pub use arguments::{WordFault, read_args};
+pub(crate) use fault::ReadFault;
 pub use laws::texts_are_read_whole;
 pub use naming_words::def_named;
 pub use read::{LeanFault, read_defs};

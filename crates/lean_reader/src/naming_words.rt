@@ -9,9 +9,9 @@ ghost use Rattle.text_meaning.specs.ShownNames.{name_text, function_text, kind_t
 ghost use Rattle.lean_reader.specs.NamedDefinitions.{NoneNamed, IsNamed};
 ghost use Rattle.lean_reader.specs.Pieces as spec;
 
+use crate::bare::is_bare;
 use aen_base::{DefId, FnId, at};
 use itoa::Buffer;
-use crate::bare::is_bare;
 use pure_ast::{DefKind, Defs};
 
 /// The first definition whose name is printed as these bytes; None exactly where no definition that
