@@ -12,7 +12,7 @@ use crate::kinds::{ByKind, KindKey};
 use crate::matching::all_match;
 use crate::outline::{DefinitionHead, Outline};
 use crate::type_table::{TypeTable, all_variants_differ, type_tables};
-use aen_base::{Name, NoMem};
+use aen_base::{List, Name, NoMem};
 use pure_ast::{CtorId, Def, PType};
 use std::alloc::Global;
 use std::marker::Model;
