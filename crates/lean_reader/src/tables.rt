@@ -12,7 +12,7 @@ use crate::kinds::{ByKind, KindKey};
 use crate::matching::all_match;
 use crate::outline::{DefinitionHead, Outline};
 use crate::type_table::{TypeTable, all_variants_differ, type_tables};
-use aen_base::{Name, NoMem};
+use aen_base::{List, Name, NoMem};
 use pure_ast::{CtorId, Def, PType};
 use std::alloc::Global;
 use std::marker::Model;
@@ -96,6 +96,18 @@ impl Tables {
             turn,
             back,
         })
+    }
+
+    /// The functions' names by number.
+    pub(crate) fn into_functions(self) -> List<Name>
+        ensures { result ≡ self.functions }
+    {
+        let Tables {
+            types: _types,
+            functions,
+            definitions: _definitions,
+        } = self;
+        functions.into_items()
     }
 
     /// Whether its heads are those of these types and definitions, part by part.
