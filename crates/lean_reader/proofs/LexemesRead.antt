@@ -5,10 +5,13 @@ use Rattle.pure_ast.specs.declared.def.Defs.{Defs}
 use Rattle.pure_ast.specs.declared.def.PType.{PType}
 use Rattle.lean_reader.specs.declared.outline.Outline.{Outline}
 use Rattle.lean_reader.specs.Fitting.{fits}
-use Rattle.lean_reader.specs.Lexemes.{AreDefs, AreOnly, AreNone}
+use Rattle.lean_reader.specs.declared.fault.ReadFault.{ReadFault}
+use Rattle.lean_reader.specs.declared.fault.ReadFault.TheVariants.{Syntax, Memory}
+use Rattle.lean_reader.specs.Lexemes.{AreDefs, AreOnly, AreNone, IsReadOf}
 use Rattle.lean_reader.specs.Outlines.{outline_of, environment}
 use Rattle.lean_reader.specs.Outlining as o
-use Rattle.lean_reader.specs.Parser.{Tokens}
+use Rattle.lean_reader.specs.Parser.{Tokens, Gives}
+use Rattle.std.specs.Prelude.{Err}
 use Rattle.lean_reader.specs.Texts.{text}
 use Rattle.lean_reader.proofs.Singles.{pair_some, pack}
 use Rattle.lean_reader.proofs.TermsComplete.{Read}
@@ -51,3 +54,8 @@ module _ (ls : Tokens) (h : Outline) (e : h ≡ o.outline ls) where
       let d = defs_of h ts ds in
       let r = read_is_text d ls rest (ap fits same ∙ f) (ap (λ x. text (environment x) h.functions ls) same ∙ is) in
       record { are = record { stand = r.0; well_formed = r.1 }; only = λ other a. same_defs ts ds rest is other a }
+
+  -- lexemes that are not read, by the fault
+  pub unread_by : (fault : ReadFault) (rest : Tokens) → Gives (text (environment h) h.functions ls) (Err fault) rest → IsReadOf ls (Err fault)
+  unread_by Syntax rest g = unread g
+  unread_by Memory rest g = tt

@@ -1,5 +1,6 @@
 -- What a text's lexemes are is what the text is.
 use Rattle.std.proofs.Common.{◌≡◌, refl, ap, sym, ◌∙◌, subst, ℕ, Bool, true, false, List, [], ◌∷◌, Option, Some, None}
+use Rattle.std.specs.Prelude.{is_some}
 use Rattle.pure_ast.specs.declared.def.Defs.{Defs}
 use Rattle.text_meaning.specs.Reading.{ReadsText}
 use Rattle.text_meaning.specs.Spelled.{tokens_of}
@@ -31,3 +32,11 @@ module _ (ls : Tokens) (text : List ℕ) (lexed : AreLexemes ls text) where
 
   pub is_unread : AreNone ls → IsUnread text
   is_unread n d r = n d (stands d r)
+
+pub no_fault : {A : Type 0} (o : Option A) → is_some o ≡ false → o ≡ None
+no_fault None h = refl
+no_fault (Some x) h = absurd cc
+
+pub some_fault : {A : Type 0} (o : Option A) → is_some o ≡ true → o ≡ None → ⊥
+some_fault None h e = absurd cc
+some_fault (Some x) h e = absurd cc

@@ -21,7 +21,10 @@ pub(crate) fn read_lexemes(alloc: Global, tokens: &[Lexeme]) -> Result<Defs, Rea
         return Err(ReadFault::Syntax);
     }
     let mut reader = Reader { tokens };
-    let (types, defs) = reader.text(alloc, &tables)?;
+    let (types, defs) = match reader.text(alloc, &tables) {
+        Ok(read) => read,
+        Err(fault) => return Err(fault),
+    };
     if !tables.is_outline_of(types.as_slice(), defs.as_slice()) {
         return Err(ReadFault::Syntax);
     }
