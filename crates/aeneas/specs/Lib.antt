@@ -9,3 +9,6 @@ pub mod Answer
 pub mod SourceFound
 pub mod DefinitionWord
 pub mod DefinitionParts
+pub mod Printed
+pub mod PrintedFound
+pub mod Eval

@@ -26,7 +26,14 @@ pub record IsRun (words : List (List ℕ)) (file name fuel : List ℕ) (values :
   pub is_fuel : IsFuel fuel
   pub short : All IsShort words
 
+-- the words are `eval FILE DEF FUEL VALUE..`
+pub record IsEval (words : List (List ℕ)) (file name fuel : List ℕ) (values : List (List ℕ)) : Type 0 where
+  pub words_are : words ≡ codes "eval" ∷ file ∷ name ∷ fuel ∷ values
+  pub is_fuel : IsFuel fuel
+  pub short : All IsShort words
+
 -- the words have none of the forms
 pub record HasNoForm (words : List (List ℕ)) : Type 0 where
   pub translate : (file : List ℕ) → IsTranslate words file → ⊥
   pub run : (file name fuel : List ℕ) (values : List (List ℕ)) → IsRun words file name fuel values → ⊥
+  pub eval : (file name fuel : List ℕ) (values : List (List ℕ)) → IsEval words file name fuel values → ⊥

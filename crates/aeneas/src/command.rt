@@ -1,7 +1,7 @@
 ghost use Rattle.std.specs.Prelude.{◌≡◌, ◌<◌, ◌^◌, ◌↔◌, IsTrue, All, MatchOption, map};
 ghost use Rattle.std.specs.String.{string_bytes, string_len};
 ghost use Rattle.aeneas.specs.Words.{HasNoForm, IsFuel};
-ghost use Rattle.aeneas.specs.Parsed.{IsCommand, IsRunParts};
+ghost use Rattle.aeneas.specs.Parsed.{IsCommand, IsRunParts, IsEvalParts};
 
 use crate::fuel::fuel_number;
 
@@ -11,6 +11,8 @@ pub enum Command<'a> {
     Translate(&'a str),
     /// `run FILE FN FUEL VALUE..`
     Run(&'a str, &'a str, u64, &'a [String]),
+    /// `eval FILE DEF FUEL VALUE..`
+    Eval(&'a str, &'a str, u64, &'a [String]),
 }
 
 /// The command that the words give; None exactly where they have none of the forms.
@@ -36,6 +38,9 @@ fn form_of(words: &[String]) -> Option<Command<'_>>
         [command, file, name, fuel, values @ ..] if command.as_str() == "run" => {
             run_command(file.as_str(), name.as_str(), fuel.as_str(), values)
         }
+        [command, file, name, fuel, values @ ..] if command.as_str() == "eval" => {
+            eval_command(file.as_str(), name.as_str(), fuel.as_str(), values)
+        }
         _ => None,
     }
 }
@@ -51,6 +56,21 @@ fn run_command<'a>(
 {
     match fuel_number(fuel.as_bytes()) {
         Some(fuel) => Some(Command::Run(file, name, fuel, values)),
+        None => None,
+    }
+}
+
+/// The command `eval` with these parts; None exactly where FUEL is no number.
+fn eval_command<'a>(
+    file: &'a str,
+    name: &'a str,
+    fuel: &str,
+    values: &'a [String],
+) -> Option<Command<'a>>
+    ensures { MatchOption result (IsFuel fuel.now → ⊥) (IsEvalParts file.now name.now fuel.now (map string_bytes values.now)) }
+{
+    match fuel_number(fuel.as_bytes()) {
+        Some(fuel) => Some(Command::Eval(file, name, fuel, values)),
         None => None,
     }
 }

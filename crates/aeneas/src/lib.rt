@@ -3,7 +3,9 @@
 
 mod command;
 mod definition_word;
+mod eval_file;
 mod fuel;
+mod printed;
 mod reply;
 mod run_file;
 mod source;

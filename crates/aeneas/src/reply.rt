@@ -3,6 +3,7 @@ ghost use Rattle.std.specs.String.{string_bytes};
 ghost use Rattle.aeneas.specs.Reply.{IsReply};
 
 use crate::command::{Command, command_of};
+use crate::eval_file::eval_file;
 use crate::run_file::run_file;
 use crate::translate_file::translate_file;
 use aen_base::{NoMem, Text};
@@ -38,6 +39,9 @@ pub fn reply_to<F: Files>(alloc: Global, words: &[String], files: &mut F) -> Res
         Some(Command::Translate(file)) => translate_file(alloc, files, file),
         Some(Command::Run(file, name, fuel, values)) => {
             run_file(alloc, files, file, name, fuel, values)
+        }
+        Some(Command::Eval(file, name, fuel, values)) => {
+            eval_file(alloc, files, file, name, fuel, values)
         }
     }
 }

@@ -56,5 +56,4 @@ pub mod DefinitionsOutlined
 pub mod WholeTexts
 pub mod LexemesRead
 pub mod TextsRead
-pub mod Whole
 pub mod Matched

@@ -1,6 +1,5 @@
 -- What is read under the lexemes' outline is what they are.
-use Rattle.std.proofs.Common.{◌≡◌, ◌∙◌, sym, ap, subst}
-use Rattle.pure_ast.specs.declared.def.Defs.{Defs}
+use Rattle.std.proofs.Common.{◌∙◌, sym, subst}
 use Rattle.lean_reader.specs.Lexemes.{AreOnly}
 use Rattle.lean_reader.specs.Matching.{defs_of}
 use Rattle.lean_reader.specs.Outlines.{outline_of}

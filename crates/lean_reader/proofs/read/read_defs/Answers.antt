@@ -1,5 +1,5 @@
 -- What is read of a text's lexemes is what the text is.
-use Rattle.std.proofs.Common.{◌≡◌, ◌∙◌, sym, ap, refl, subst}
+use Rattle.std.proofs.Common.{◌∙◌, sym, ap, refl, subst}
 use Rattle.std.specs.Prelude.{Err}
 use Rattle.lean_reader.specs.Lexemes.{AreOnly, AreNone, IsReadOf}
 use Rattle.lean_reader.specs.WordReading.{few_lexemes}

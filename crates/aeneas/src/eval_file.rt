@@ -1,0 +1,123 @@
+ghost use Rattle.std.specs.Prelude.{◌≡◌, ◌<◌, ◌^◌, IfOk, All, length, map};
+ghost use Rattle.std.specs.String.{string_bytes, string_len};
+ghost use Rattle.text_meaning.specs.WellFormed.{IsWellFormed};
+ghost use Rattle.aeneas.specs.Eval.{EvalReply, DefsReply, EvaluationReply, AnswerReply, WordFaultReply};
+
+use crate::definition_word::definition_word;
+use crate::printed::{Printed, printed_of};
+use crate::reply::{Reply, one_line};
+use aen_base::{DefId, NoMem, Text};
+use aen_io::Files;
+use lean_reader::{WordFault, def_named, print_atom, read_args};
+use pure_ast::Defs;
+use pure_eval::eval;
+use std::alloc::Global;
+use text_meaning::Answer;
+
+/// The greatest FUEL.
+const FUEL_LIMIT: u64 = 256;
+
+/// `eval FILE DEF FUEL VALUE..`. The only error is want of memory.
+pub fn eval_file<F: Files>(
+    alloc: Global,
+    files: &mut F,
+    file: &str,
+    word: &str,
+    fuel: u64,
+    values: &[String],
+) -> Result<Reply, NoMem>
+    requires short { length word.now < 2 ^ 32 }
+    requires short_values { All (λ w. string_len w < 2 ^ 32) values.now }
+    ensures reply { IfOk result (λ r. EvalReply (F.told files.old) file.now word.now (map string_bytes values.now) fuel (F.faults files.old) (F.faults files.new) r.status r.text) }
+    ensures kept { F.told files.new ≡ F.told files.old }
+{
+    if fuel > FUEL_LIMIT {
+        let line = format!(in alloc; "refused 10 limit fuel {fuel}\n")?;
+        return one_line(alloc, 10, line.as_str());
+    }
+    match printed_of(alloc, files, file)? {
+        Printed::Read(defs) => eval_word(alloc, &defs, word, fuel, values),
+        Printed::Refused(reply) => Ok(reply),
+    }
+}
+
+/// Evaluates the definition that DEF names.
+fn eval_word(
+    alloc: Global,
+    defs: &Defs,
+    word: &str,
+    fuel: u64,
+    values: &[String],
+) -> Result<Reply, NoMem>
+    requires well_formed { IsWellFormed defs.now }
+    requires short { length word.now < 2 ^ 32 }
+    requires short_values { All (λ w. string_len w < 2 ^ 32) values.now }
+    ensures { IfOk result (λ r. DefsReply defs.now word.now (map string_bytes values.now) fuel r.status r.text) }
+{
+    let Some(parts) = definition_word(alloc, word)? else {
+        return one_line(alloc, 13, "refused 13 name\n");
+    };
+    match def_named(defs, parts.name) {
+        None => one_line(alloc, 13, "refused 13 name\n"),
+        Some(def) => eval_definition(alloc, defs, def, parts.types.as_slice(), fuel, values),
+    }
+}
+
+/// Evaluates a definition with the types and values that words write.
+fn eval_definition(
+    alloc: Global,
+    defs: &Defs,
+    def: DefId,
+    types: &[String],
+    fuel: u64,
+    values: &[String],
+) -> Result<Reply, NoMem>
+    requires well_formed { IsWellFormed defs.now }
+    requires known { def.0 < length defs.now.defs }
+    requires short_types { All (λ w. string_len w < 2 ^ 32) types.now }
+    requires short_values { All (λ w. string_len w < 2 ^ 32) values.now }
+    ensures { IfOk result (λ r. EvaluationReply defs.now def.0 (map string_bytes types.now) (map string_bytes values.now) fuel r.status r.text) }
+{
+    match read_args(alloc, defs, def, types, values) {
+        Ok(args) => answer_reply(alloc, defs, eval(alloc, defs, def, args.as_slice(), fuel)?),
+        Err(fault) => word_fault_reply(alloc, fault),
+    }
+}
+
+/// The refusal of words that are no types or arguments.
+fn word_fault_reply(alloc: Global, fault: WordFault) -> Result<Reply, NoMem>
+    ensures { IfOk result (λ r. WordFaultReply fault r.status r.text) }
+{
+    match fault {
+        WordFault::Types => one_line(alloc, 11, "refused 11 types\n"),
+        WordFault::WrongCount(expected, given) => {
+            let line = format!(in alloc; "refused 11 count {expected} {given}\n")?;
+            one_line(alloc, 11, line.as_str())
+        }
+        WordFault::BadValue(place) => {
+            let line = format!(in alloc; "refused 11 argument {place}\n")?;
+            one_line(alloc, 11, line.as_str())
+        }
+        WordFault::Memory => Err(NoMem),
+    }
+}
+
+/// The line of an answer.
+fn answer_reply(alloc: Global, defs: &Defs, answer: Answer) -> Result<Reply, NoMem>
+    ensures { IfOk result (λ r. AnswerReply defs.now answer r.status r.text) }
+{
+    match answer {
+        Answer::Ok(value) => {
+            let atom = print_atom(alloc, defs, &value)?;
+            let written = atom.as_str();
+            let line = format!(in alloc; "ok {written}\n")?;
+            Ok(Reply {
+                status: 0,
+                text: Text::new(line),
+            })
+        }
+        Answer::Fail(_) => one_line(alloc, 20, "fail\n"),
+        Answer::OutOfFuel => one_line(alloc, 21, "outOfFuel\n"),
+        Answer::Stuck => one_line(alloc, 22, "stuck\n"),
+    }
+}
