@@ -5,7 +5,7 @@ use Rattle.std.proofs.lemmas.List.Elements.{All-cons}
 use Rattle.aeneas.specs.declared.command.Command.{Command}
 use Rattle.aeneas.specs.declared.command.Command.TheVariants.{Translate, Run, Eval}
 use Rattle.aeneas.specs.Words.{IsShort, IsFuel, IsTranslate, HasNoForm}
-use Rattle.aeneas.specs.Parsed.{IsCommand, IsRunParts, IsEvalParts}
+use Rattle.aeneas.specs.Parsed.{IsCommand, IsNoCall, IsCallOf}
 
 all_none : {X : Type 0} (P : X → Type 0) → All P []
 all_none P k d h = absurd (omega arith)
@@ -23,44 +23,31 @@ too_long words long = record {
   eval = λ file name fuel values r. long r.short;
 }
 
--- a command's words are `run` and its parts
-pub run_form : (words : List (List ℕ)) (file name fuel : List ℕ) (values : List (List ℕ)) →
-    words ≡ codes "run" ∷ file ∷ name ∷ fuel ∷ values → All IsShort words → (o : Option Command) →
-    MatchOption o (IsFuel fuel → ⊥) (IsRunParts file name fuel values) → MatchOption o (HasNoForm words) (IsCommand words)
-run_form words file name fuel values are short None none = record {
+-- words of at least four are a call, or have no form
+pub call_form : (words : List (List ℕ)) (command file name fuel : List ℕ) (values : List (List ℕ)) →
+    words ≡ command ∷ file ∷ name ∷ fuel ∷ values → All IsShort words → (o : Option Command) →
+    MatchOption o (IsNoCall command fuel) (IsCallOf command file name fuel values) → MatchOption o (HasNoForm words) (IsCommand words)
+call_form words command file name fuel values are short None none = record {
   translate = λ f t. (let e = sym are ∙ t.words_are in cc);
-  run = λ f n w vs r. none (subst IsFuel (let e = sym are ∙ r.words_are in cc) r.is_fuel);
-  eval = λ f n w vs r. (let e = sym are ∙ r.words_are in cc);
+  run = λ f n w vs r. none.0 (let e = sym are ∙ r.words_are in cc) (subst IsFuel (let e = sym are ∙ r.words_are in cc) r.is_fuel);
+  eval = λ f n w vs r. none.1 (let e = sym are ∙ r.words_are in cc) (subst IsFuel (let e = sym are ∙ r.words_are in cc) r.is_fuel);
 }
-run_form words file name fuel values are short (Some (Translate x)) parts = absurd parts
-run_form words file name fuel values are short (Some (Eval f n k vs)) parts = absurd parts
-run_form words file name fuel values are short (Some (Run f n k vs)) parts = record {
+call_form words command file name fuel values are short (Some (Translate x)) parts = absurd parts
+call_form words command file name fuel values are short (Some (Run f n k vs)) parts = record {
   word = fuel;
   run = record {
-    words_are = are ∙ (λ i. codes "run" ∷ sym parts.1 i ∷ sym parts.2 i ∷ fuel ∷ sym parts.4 i);
-    is_fuel = parts.0;
+    words_are = are ∙ (λ i. parts.0 i ∷ sym parts.1.1 i ∷ sym parts.1.2 i ∷ fuel ∷ sym parts.1.4 i);
+    is_fuel = parts.1.0;
     short = short;
   };
-  number = parts.3;
+  number = parts.1.3;
 }
-
--- the same of `eval`
-pub eval_form : (words : List (List ℕ)) (file name fuel : List ℕ) (values : List (List ℕ)) →
-    words ≡ codes "eval" ∷ file ∷ name ∷ fuel ∷ values → All IsShort words → (o : Option Command) →
-    MatchOption o (IsFuel fuel → ⊥) (IsEvalParts file name fuel values) → MatchOption o (HasNoForm words) (IsCommand words)
-eval_form words file name fuel values are short None none = record {
-  translate = λ f t. (let e = sym are ∙ t.words_are in cc);
-  run = λ f n w vs r. (let e = sym are ∙ r.words_are in cc);
-  eval = λ f n w vs r. none (subst IsFuel (let e = sym are ∙ r.words_are in cc) r.is_fuel);
-}
-eval_form words file name fuel values are short (Some (Translate x)) parts = absurd parts
-eval_form words file name fuel values are short (Some (Run f n k vs)) parts = absurd parts
-eval_form words file name fuel values are short (Some (Eval f n k vs)) parts = record {
+call_form words command file name fuel values are short (Some (Eval f n k vs)) parts = record {
   word = fuel;
   eval = record {
-    words_are = are ∙ (λ i. codes "eval" ∷ sym parts.1 i ∷ sym parts.2 i ∷ fuel ∷ sym parts.4 i);
-    is_fuel = parts.0;
+    words_are = are ∙ (λ i. parts.0 i ∷ sym parts.1.1 i ∷ sym parts.1.2 i ∷ fuel ∷ sym parts.1.4 i);
+    is_fuel = parts.1.0;
     short = short;
   };
-  number = parts.3;
+  number = parts.1.3;
 }

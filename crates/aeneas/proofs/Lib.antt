@@ -3,3 +3,5 @@ pub mod Replies
 pub mod WordLemmas
 pub mod Forms
 pub mod DefinitionWords
+pub mod Evaluations
+pub mod Replying

@@ -1,5 +1,5 @@
 -- DEF: a definition's name, and the printed types of its type arguments (README.md, "The commands").
-use Rattle.std.specs.Prelude.{◌≡◌, ℕ, Bool, true, not, ◌==◌, ◌⊎◌, List, [], ◌∷◌, ◌++◌, codes}
+use Rattle.std.specs.Prelude.{◌≡◌, ℕ, true, not, ◌==◌, ◌⊎◌, List, [], ◌++◌, codes}
 use Rattle.std.specs.List.{list_all, slice_split}
 
 -- the byte does not stand in the text

@@ -1,5 +1,5 @@
 -- What `eval` answers (PROMISES.md, "Safe and total" and "Each tool meets its meaning").
-use Rattle.std.specs.Prelude.{◌≡◌, ℕ, ◌<◌, ◌≤◌, ◌^◌, ◌⊎◌, List, length, Some, slice_get}
+use Rattle.std.specs.Prelude.{◌≡◌, ℕ, ◌≤◌, ◌^◌, ◌⊎◌, List, length, Some, slice_get}
 use Rattle.aen_io.specs.Told.{Told}
 use Rattle.lean_reader.specs.declared.arguments.WordFault.{WordFault}
 use Rattle.lean_reader.specs.declared.arguments.WordFault.TheVariants as W

@@ -1,5 +1,5 @@
 -- A command is the one that its words give.
-use Rattle.std.specs.Prelude.{◌≡◌, ℕ, List, map}
+use Rattle.std.specs.Prelude.{◌≡◌, ℕ, List, map, codes}
 use Rattle.std.specs.String.{string_bytes}
 use Rattle.aeneas.specs.declared.command.Command.{Command}
 use Rattle.aeneas.specs.declared.command.Command.TheVariants.{Translate, Run, Eval}
@@ -22,14 +22,16 @@ IsCommand words (Translate file) = IsTranslate words file.now
 IsCommand words (Run file name fuel values) = IsRunCommand words file.now name.now fuel (map string_bytes values.now)
 IsCommand words (Eval file name fuel values) = IsEvalCommand words file.now name.now fuel (map string_bytes values.now)
 
--- the command `run` with these parts
-abbrev pub IsRunParts : List ℕ → List ℕ → List ℕ → List (List ℕ) → Command → Type 0
-IsRunParts file name fuel values (Run f n k vs) =
-    IsFuel fuel × (f.now ≡ file) × (n.now ≡ name) × (k ≡ fuel_of fuel) × (map string_bytes vs.now ≡ values)
-IsRunParts file name fuel values _ = ⊥
+-- these words begin neither `run` nor `eval`
+abbrev pub IsNoCall : List ℕ → List ℕ → Type 0
+IsNoCall command fuel = (command ≡ codes "run" → IsFuel fuel → ⊥) × (command ≡ codes "eval" → IsFuel fuel → ⊥)
 
--- the command `eval` with these parts
-abbrev pub IsEvalParts : List ℕ → List ℕ → List ℕ → List (List ℕ) → Command → Type 0
-IsEvalParts file name fuel values (Eval f n k vs) =
-    IsFuel fuel × (f.now ≡ file) × (n.now ≡ name) × (k ≡ fuel_of fuel) × (map string_bytes vs.now ≡ values)
-IsEvalParts file name fuel values _ = ⊥
+-- the parts of a call are these
+abbrev pub AreParts : List ℕ → List ℕ → List ℕ → List (List ℕ) → List ℕ → List ℕ → ℕ → List (List ℕ) → Type 0
+AreParts file name fuel values f n k vs = IsFuel fuel × (f ≡ file) × (n ≡ name) × (k ≡ fuel_of fuel) × (vs ≡ values)
+
+-- the command of these words
+abbrev pub IsCallOf : List ℕ → List ℕ → List ℕ → List ℕ → List (List ℕ) → Command → Type 0
+IsCallOf command file name fuel values (Translate other) = ⊥
+IsCallOf command file name fuel values (Run f n k vs) = (command ≡ codes "run") × AreParts file name fuel values f.now n.now k (map string_bytes vs.now)
+IsCallOf command file name fuel values (Eval f n k vs) = (command ≡ codes "eval") × AreParts file name fuel values f.now n.now k (map string_bytes vs.now)

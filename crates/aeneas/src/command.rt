@@ -1,7 +1,7 @@
 ghost use Rattle.std.specs.Prelude.{◌≡◌, ◌<◌, ◌^◌, ◌↔◌, IsTrue, All, MatchOption, map};
 ghost use Rattle.std.specs.String.{string_bytes, string_len};
-ghost use Rattle.aeneas.specs.Words.{HasNoForm, IsFuel};
-ghost use Rattle.aeneas.specs.Parsed.{IsCommand, IsRunParts, IsEvalParts};
+ghost use Rattle.aeneas.specs.Words.{HasNoForm};
+ghost use Rattle.aeneas.specs.Parsed.{IsCommand, IsNoCall, IsCallOf};
 
 use crate::fuel::fuel_number;
 
@@ -35,43 +35,36 @@ fn form_of(words: &[String]) -> Option<Command<'_>>
         [command, file] if command.as_str() == "translate" => {
             Some(Command::Translate(file.as_str()))
         }
-        [command, file, name, fuel, values @ ..] if command.as_str() == "run" => {
-            run_command(file.as_str(), name.as_str(), fuel.as_str(), values)
-        }
-        [command, file, name, fuel, values @ ..] if command.as_str() == "eval" => {
-            eval_command(file.as_str(), name.as_str(), fuel.as_str(), values)
-        }
+        [command, file, name, fuel, values @ ..] => call_form(
+            command.as_str(),
+            file.as_str(),
+            name.as_str(),
+            fuel.as_str(),
+            values,
+        ),
         _ => None,
     }
 }
 
-/// The command `run` with these parts; None exactly where FUEL is no number.
-fn run_command<'a>(
+/// The command of at least four words.
+fn call_form<'a>(
+    command: &str,
     file: &'a str,
     name: &'a str,
     fuel: &str,
     values: &'a [String],
 ) -> Option<Command<'a>>
-    ensures { MatchOption result (IsFuel fuel.now → ⊥) (IsRunParts file.now name.now fuel.now (map string_bytes values.now)) }
+    ensures { MatchOption result (IsNoCall command.now fuel.now) (IsCallOf command.now file.now name.now fuel.now (map string_bytes values.now)) }
 {
-    match fuel_number(fuel.as_bytes()) {
-        Some(fuel) => Some(Command::Run(file, name, fuel, values)),
-        None => None,
+    let is_run = command == "run";
+    if !is_run && command != "eval" {
+        return None;
     }
-}
-
-/// The command `eval` with these parts; None exactly where FUEL is no number.
-fn eval_command<'a>(
-    file: &'a str,
-    name: &'a str,
-    fuel: &str,
-    values: &'a [String],
-) -> Option<Command<'a>>
-    ensures { MatchOption result (IsFuel fuel.now → ⊥) (IsEvalParts file.now name.now fuel.now (map string_bytes values.now)) }
-{
-    match fuel_number(fuel.as_bytes()) {
-        Some(fuel) => Some(Command::Eval(file, name, fuel, values)),
-        None => None,
+    let fuel = fuel_number(fuel.as_bytes())?;
+    if is_run {
+        Some(Command::Run(file, name, fuel, values))
+    } else {
+        Some(Command::Eval(file, name, fuel, values))
     }
 }
 

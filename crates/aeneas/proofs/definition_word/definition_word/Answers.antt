@@ -1,5 +1,5 @@
 -- The parts of the word, and that there are no others.
-use Rattle.std.proofs.Common.{◌≡◌, ◌∙◌, ◌∷◌, ◌++◌, sym, ap, subst, lit<, map}
+use Rattle.std.proofs.Common.{◌∙◌, ◌∷◌, ◌++◌, sym, subst, lit<, map}
 use Rattle.std.specs.String.{string_bytes}
 use Rattle.aeneas.specs.DefinitionWord.{Lacks}
 use Rattle.aeneas.specs.DefinitionParts.{IsOnly}

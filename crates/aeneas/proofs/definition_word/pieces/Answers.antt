@@ -1,5 +1,5 @@
 -- All pieces were cut off.
-use Rattle.std.proofs.Common.{◌≡◌, ◌∙◌, ap, map, lit<, arith}
+use Rattle.std.proofs.Common.{◌∙◌, ap, map, lit<, arith}
 use Rattle.std.proofs.lemmas.Iterator.Consumers.{map_from_collect}
 use Rattle.std.proofs.lemmas.Iterator.Splits.{YieldsList-from_str_split}
 use Rattle.std.specs.Prelude.{Ok}

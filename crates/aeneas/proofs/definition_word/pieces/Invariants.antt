@@ -1,5 +1,5 @@
 -- The pieces so far are those that were cut off.
-use Rattle.std.proofs.Common.{◌≡◌, map, take, length, ◌≤◌}
+use Rattle.std.proofs.Common.{◌≡◌, map, take}
 use Rattle.std.specs.String.{string_bytes}
 use Rattle.aeneas.proofs.definition_word.pieces.Given as goal
 

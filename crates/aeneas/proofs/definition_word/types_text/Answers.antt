@@ -1,5 +1,5 @@
 -- The text after `:<`, without its last `>`.
-use Rattle.std.proofs.Common.{◌≡◌, sym, lit<}
+use Rattle.std.proofs.Common.{lit<}
 use Rattle.std.specs.Prelude.{codes}
 use Rattle.aeneas.proofs.WordLemmas.{same_bytes}
 use Rattle.aeneas.proofs.DefinitionWords.{stripped, after_name, types_of, not_false}

@@ -1,0 +1,61 @@
+-- A command's reply is the reply to its words, which have one form alone.
+use Rattle.std.proofs.Common.{◌≡◌, ap, sym, subst, ◌∙◌, ℕ, List, ◌∷◌}
+use Rattle.std.specs.Prelude.{All, codes}
+use Rattle.std.proofs.lemmas.List.Elements.{All-head, All-tail}
+use Rattle.aen_io.specs.Told.{Told}
+use Rattle.aeneas.specs.Eval.{EvalReply}
+use Rattle.aeneas.specs.Parsed.{IsRunCommand, IsEvalCommand}
+use Rattle.aeneas.specs.Reply.{IsReply}
+use Rattle.aeneas.specs.Run.{RunReply}
+use Rattle.aeneas.specs.Words.{IsShort, IsRun, IsEval, fuel_of}
+
+module _ (words : List (List ℕ)) (told : Told) (file name : List ℕ) (fuel : ℕ) (values : List (List ℕ)) (before after status : ℕ) (text : List ℕ) where
+  run_same : (c : IsRunCommand words file name fuel values) → RunReply told file name values fuel before after status text →
+      (f n w : List ℕ) (vs : List (List ℕ)) → IsRun words f n w vs → RunReply told f n vs (fuel_of w) before after status text
+  run_same c h f n w vs r =
+      let e = sym c.run.words_are ∙ r.words_are in
+      let a : file ≡ f = cc in
+      let b : name ≡ n = cc in
+      let d : c.word ≡ w = cc in
+      let g : values ≡ vs = cc in
+      let m : fuel ≡ fuel_of w = c.number ∙ ap fuel_of d in
+      (coe 0 1 (i. RunReply told (a i) (b i) (g i) (m i) before after status text) h)
+
+  eval_same : (c : IsEvalCommand words file name fuel values) → EvalReply told file name values fuel before after status text →
+      (f n w : List ℕ) (vs : List (List ℕ)) → IsEval words f n w vs → EvalReply told f n vs (fuel_of w) before after status text
+  eval_same c h f n w vs r =
+      let e = sym c.eval.words_are ∙ r.words_are in
+      let a : file ≡ f = cc in
+      let b : name ≡ n = cc in
+      let d : c.word ≡ w = cc in
+      let g : values ≡ vs = cc in
+      let m : fuel ≡ fuel_of w = c.number ∙ ap fuel_of d in
+      (coe 0 1 (i. EvalReply told (a i) (b i) (g i) (m i) before after status text) h)
+
+  pub run_reply : IsRunCommand words file name fuel values → RunReply told file name values fuel before after status text → IsReply words told before after status text
+  run_reply c h = record {
+    usage = λ none. absurd (none.run file name c.word values c.run);
+    translate = λ f t. (let e = sym c.run.words_are ∙ t.words_are in absurd cc);
+    run = λ f n w vs r. run_same c h f n w vs r;
+    eval = λ f n w vs r. (let e = sym c.run.words_are ∙ r.words_are in absurd cc);
+  }
+
+  pub eval_reply : IsEvalCommand words file name fuel values → EvalReply told file name values fuel before after status text → IsReply words told before after status text
+  eval_reply c h = record {
+    usage = λ none. absurd (none.eval file name c.word values c.eval);
+    translate = λ f t. (let e = sym c.eval.words_are ∙ t.words_are in absurd cc);
+    run = λ f n w vs r. (let e = sym c.eval.words_are ∙ r.words_are in absurd cc);
+    eval = λ f n w vs r. eval_same c h f n w vs r;
+  }
+
+  -- DEF and the values of `eval` are short
+  tail_short : (c : IsEvalCommand words file name fuel values) → All IsShort (name ∷ c.word ∷ values)
+  tail_short c =
+      let all = subst (All IsShort) c.eval.words_are c.eval.short in
+      All-tail IsShort file (name ∷ c.word ∷ values) (All-tail IsShort (codes "eval") (file ∷ name ∷ c.word ∷ values) all)
+
+  pub name_short : IsEvalCommand words file name fuel values → IsShort name
+  name_short c = All-head IsShort name (c.word ∷ values) (tail_short c)
+
+  pub values_short : IsEvalCommand words file name fuel values → All IsShort values
+  values_short c = All-tail IsShort c.word values (All-tail IsShort name (c.word ∷ values) (tail_short c))
