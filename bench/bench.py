@@ -1,9 +1,11 @@
 #!/usr/bin/env python3
-"""bench.py [PROGRAM]: time, peak memory and growth of the built program on sources that double.
+"""bench.py [PROGRAM]: time, peak memory and growth of the built program on inputs that double.
 
-PROGRAM is ./aeneas where it isn't given. Each source has many functions, lets, sums of ten terms
-and calls; one more has a single function with one long sum, and one a single function with many
-lets.
+PROGRAM is ./aeneas where it isn't given. Sources for `translate` have many functions with lets, sums
+of ten terms and calls, or a single function with one long sum, or with many lets. One source for
+`run` is a chain of 250 calls. Texts for `eval` have many definitions with types and matches, or one
+definition with many binds, and are read whole before one of their definitions is evaluated. The last
+line is a loop of sums at a fuel of 1,000,000, by the program loop_bench where that is built.
 """
 import os
 import subprocess
@@ -13,7 +15,12 @@ import time
 
 HERE = os.path.dirname(os.path.abspath(__file__))
 PROGRAM = os.path.abspath(sys.argv[1]) if len(sys.argv) > 1 else os.path.join(HERE, "..", "aeneas")
-SIZES = [256 * 1024, 512 * 1024, 1024 * 1024]
+LOOP = os.path.join(HERE, "..", "crates", "loop_bench", "out", "loop_bench")
+KIB, MIB = 1024, 1024 * 1024
+SOURCE_SIZES = [256 * KIB, 512 * KIB, MIB]
+TEXT_SIZES = [MIB, 2 * MIB, 4 * MIB, 8 * MIB, 16 * MIB]
+TURNS = 999_999
+BINDS_A_TURN = 3
 
 
 def many_functions(size):
@@ -52,12 +59,57 @@ def many_lets(size):
         k += 1
 
 
+def call_chain(length):
+    """Functions that each call the one before, as deep as a bound of 250 allows."""
+    parts = ["fn step1(x: u32) -> u32 { x }\n"]
+    parts += [f"fn step{k}(x: u32) -> u32 {{ step{k - 1}(x + 1) }}\n" for k in range(2, length + 1)]
+    return "".join(parts)
+
+
+HEADER = "import AenPrelude\nopen AenPrelude\n"
+HEAD = "  match n with\n  | 0 => outOfFuel\n  | n + 1 => do\n"
+
+
+def many_definitions(size):
+    """Types, and definitions with matches, terms and calls of the one before."""
+    parts, length, k = [HEADER, "\nstructure P where\n  (x : U8)\n  (y : I64)\n"], 100, 0
+    parts.append("\ninductive L (T : Type) where\n  | nil : L T\n  | cons : T → (L T) → L T\n")
+    while True:
+        before = f"fn.f{k - 1} n v2" if k else "U32.add v1 1#U32"
+        text = (
+            f"\ndef fn.f{k} (n : Nat) (v0 : (L (U32 × P))) : Result U32 :=\n{HEAD}"
+            "    (match v0 with\n    | L.nil => do\n      ok 0#U32\n    | L.cons v1 v2 => do\n"
+            "      (match v1 with\n      | (v3, v4) => do\n        let v5 ← U32.add v3 1#U32;\n"
+            "        let v6 := (L.cons (v5, (P.mk 255#U8 -1#I64)) v2);\n"
+            f"        fn.g{k} n v6))\n"
+            f"\ndef fn.g{k} (n : Nat) (v0 : (L (U32 × P))) : Result U32 :=\n{HEAD}"
+            f"    let v1 ← U32.mul 3#U32 4#U32;\n    {before.replace('v2', 'v0')}\n"
+        )
+        if length + len(text) > size:
+            return "".join(parts)
+        parts.append(text)
+        length += len(text.encode())
+        k += 1
+
+
+def many_binds(size):
+    """One definition with many binds."""
+    parts, length, k = [f"{HEADER}\ndef fn.f0 (n : Nat) (v0 : U32) : Result U32 :=\n{HEAD}"], 200, 1
+    while True:
+        text = f"    let v{k} ← U32.xor v{k - 1} {k % 97}#U32;\n"
+        if length + len(text) > size:
+            return "".join(parts) + f"    ok v{k - 1}\n"
+        parts.append(text)
+        length += len(text.encode())
+        k += 1
+
+
 def measure(words, folder):
     """Seconds, peak kilobytes, status and bytes written of one run."""
     out = os.path.join(folder, "out")
     with open(out, "wb") as sink:
         start = time.perf_counter()
-        child = subprocess.Popen([PROGRAM] + words, cwd=folder, stdout=sink, stdin=subprocess.DEVNULL)
+        child = subprocess.Popen(words, cwd=folder, stdout=sink, stdin=subprocess.DEVNULL)
         _, status, usage = os.wait4(child.pid, 0)
         seconds = time.perf_counter() - start
     return seconds, usage.ru_maxrss, os.waitstatus_to_exitcode(status), os.path.getsize(out)
@@ -68,19 +120,33 @@ def best(words, folder):
     return min(measure(words, folder) for _ in range(3))
 
 
+def table(name, make, sizes, words):
+    """One line for each size: what the program does with the words on an input of that size."""
+    before = None
+    for size in sizes:
+        with tempfile.TemporaryDirectory() as folder:
+            content = make(size).encode()
+            with open(os.path.join(folder, "a"), "wb") as file:
+                file.write(content)
+            seconds, peak, status, written = best([PROGRAM] + words, folder)
+        growth = f"{seconds / before:.2f}" if before else "-"
+        before = seconds
+        share = peak * KIB / len(content)
+        print(f"{name:24} {len(content):9} {seconds:8.3f} {growth:>7} {peak / KIB:8.1f} {share:6.1f} {written:9} {status:6}")
+
+
 def main():
-    print(f"{'source':16} {'bytes':>9} {'seconds':>8} {'growth':>7} {'peak MB':>8} {'text bytes':>11} status")
+    print(f"{'input':24} {'bytes':>9} {'seconds':>8} {'growth':>7} {'peak MB':>8} {'a byte':>6} {'written':>9} status")
     for name, make in [("many functions", many_functions), ("one sum", one_sum), ("many lets", many_lets)]:
-        before = None
-        for size in SIZES:
-            with tempfile.TemporaryDirectory() as folder:
-                source = make(size)
-                with open(os.path.join(folder, "a.rs"), "w") as file:
-                    file.write(source)
-                seconds, peak, status, written = best(["translate", "a.rs"], folder)
-            growth = f"{seconds / before:.2f}" if before else "-"
-            before = seconds
-            print(f"{name:16} {len(source):9} {seconds:8.3f} {growth:>7} {peak / 1024:8.1f} {written:11} {status}")
+        table(f"translate {name}", make, SOURCE_SIZES, ["translate", "a"])
+    table("run a chain of calls", call_chain, [250], ["run", "a", "step250", "250", "1"])
+    table("eval many definitions", many_definitions, TEXT_SIZES, ["eval", "a", "fn.g0", "9", "L.nil"])
+    table("eval many binds", many_binds, TEXT_SIZES, ["eval", "a", "fn.f0", "9", "7#U32"])
+    if os.path.exists(LOOP):
+        with tempfile.TemporaryDirectory() as folder:
+            seconds, peak, status, _ = best([LOOP], folder)
+        binds = TURNS * BINDS_A_TURN / seconds / 1e6
+        print(f"loop of sums: {seconds:.3f} s, {binds:.1f} million binds a second, peak {peak / KIB:.1f} MB, status {status}")
 
 
 if __name__ == "__main__":
