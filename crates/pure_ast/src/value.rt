@@ -100,6 +100,14 @@ impl Model for PValue {
 }
 
 impl PValue {
+    /// The form of the value, taken out of it.
+    pub fn into_node(self) -> PValueNode
+        ensures { value_of result ≡ self }
+    {
+        let PValue { node } = self;
+        node
+    }
+
     /// A number.
     pub fn number(number: Num) -> PValue
         ensures { result ≡ values.number number }
