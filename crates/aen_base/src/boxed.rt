@@ -3,6 +3,7 @@ ghost use Rattle.std.specs.Prelude.{◌≡◌, IfOk};
 use crate::NoMem;
 use std::alloc::Global;
 use std::marker::Model;
+use std::mem;
 
 /// A `Box` that contracts see as its value, so that a tree of them is plain data.
 #[derive(Debug)]
@@ -38,6 +39,14 @@ impl<T> Boxed<T> {
     {
         let Boxed { inner } = self;
         Box::into_inner(inner)
+    }
+
+    /// Puts a value in the place of the one that the box holds, and gives that one.
+    pub fn replace(&mut self, value: T) -> T
+        ensures taken { result ≡ self.old }
+        ensures put { self.new ≡ value }
+    {
+        mem::replace(&mut *self.inner, value)
     }
 }
 

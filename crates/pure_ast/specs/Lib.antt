@@ -1,4 +1,5 @@
 pub mod Types
+pub mod TypeLeft
 pub mod TypeView
 pub mod TypeFalls
 pub mod Terms

@@ -1,5 +1,5 @@
 -- A type is larger than its parts.
-use Rattle.std.specs.Prelude.{◌≤◌, ◌+◌, List, [], ◌∷◌}
+use Rattle.std.specs.Prelude.{◌≤◌, ◌+◌, ◌*◌, List, [], ◌∷◌}
 use Rattle.std.proofs.Common.{arith}
 use denote.Param.Weighed.{most}
 use Rattle.pure_ast.specs.declared.ty.PTyNode.{PTyNode}
@@ -16,3 +16,8 @@ pub type_falls : (n : PTyNode) → deep-PTyNode n ≤ nodes_pty (type_of n)
 type_falls (N.Prod ts) = omega (arith, most_types ts)
 type_falls (N.Named t ts) = omega (arith, most_types ts)
 type_falls _ = omega arith
+
+-- the parts of a type are smaller than the type
+pub most_dropped : (ts : List PTy) → most (λ t. 2 * (nodes_pty t + 1) + 0) ts ≤ 2 * nodes_ptys (ptys ts)
+most_dropped [] = omega arith
+most_dropped (t ∷ ts) = omega (arith, most_dropped ts)

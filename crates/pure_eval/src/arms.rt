@@ -85,7 +85,7 @@ fn add_parts(
 ) -> Result<(), NoMem>
     ensures { OnOk result ((more : Environment) → spec.fits pattern.now value ≡ Some more → variables.new ≡ variables.old ++ more) }
 {
-    let PValue { node } = value;
+    let node = value.into_node();
     match (pattern, node) {
         (Pat::Tuple(names), PValueNode::Tuple(parts)) => {
             add_all(alloc, variables, names.as_slice(), parts)

@@ -37,8 +37,7 @@ pub(crate) fn both(values: List<PValue>) -> Option<(PValue, PValue)>
 fn number_in(value: PValue) -> Option<Num>
     ensures { result ≡ spec.number_in value }
 {
-    let PValue { node } = value;
-    match node {
+    match value.into_node() {
         PValueNode::Num(number) => Some(number),
         _ => None,
     }
@@ -48,8 +47,7 @@ fn number_in(value: PValue) -> Option<Num>
 fn truth_in(value: PValue) -> Option<bool>
     ensures { result ≡ spec.truth_in value }
 {
-    let PValue { node } = value;
-    match node {
+    match value.into_node() {
         PValueNode::Bool(truth) => Some(truth),
         _ => None,
     }

@@ -87,8 +87,7 @@ fn sum_below(alloc: Global, bound: u128) -> Result<Defs, NoMem> {
 fn magnitude(answer: Answer) -> Option<u128> {
     match answer {
         Answer::Ok(value) => {
-            let PValue { node } = value;
-            match node {
+            match value.into_node() {
                 PValueNode::Num(number) => Some(number.magnitude()),
                 _ => None,
             }

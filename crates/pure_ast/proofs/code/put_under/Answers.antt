@@ -8,4 +8,4 @@ pub returns-clause-first : goal.returns-clause-first
 returns-clause-first c = below_first_arm c.args.arms c.replace-pat.result c.replace-pat.ensures.taken
 
 pub returns-clause-all : goal.returns-clause-all
-returns-clause-all c = all_arms_kept c.args.arms c.replace-pat.new.self c.replace-pat.result (Bool true) c.args.waiting c.replace-pat.ensures.taken c.replace-pat.ensures.put
+returns-clause-all c = all_arms_kept c.args.arms c.replace-pat.new.self c.replace-pat.result (Bool true, c.args.waiting) c.replace-pat.ensures.taken c.replace-pat.ensures.put

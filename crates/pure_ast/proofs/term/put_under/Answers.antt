@@ -1,4 +1,6 @@
 -- The first part is taken out, and a tuple of the list is put there.
+use Rattle.std.proofs.Common.{ap, arith}
+use Rattle.pure_ast.specs.Terms.{nodes_term}
 use Rattle.pure_ast.proofs.Dropping.{below_first, all_kept}
 use Rattle.pure_ast.proofs.term.put_under.Goals as goal
 
@@ -6,4 +8,7 @@ pub returns-clause-first : goal.returns-clause-first
 returns-clause-first c = below_first c.args.parts c.replace-first.result c.replace-first.ensures.taken
 
 pub returns-clause-all : goal.returns-clause-all
-returns-clause-all c = all_kept c.args.parts c.replace-first.new.self c.args.left c.replace-first.result c.tuple.result c.replace-first.ensures.taken c.tuple.ensures c.replace-first.ensures.put
+returns-clause-all c =
+    let made = ap nodes_term c.tuple.ensures in
+    let kept = all_kept c.args.parts c.replace-first.new.self c.replace-first.result c.tuple.result c.replace-first.ensures.taken c.replace-first.ensures.put in
+    omega (arith, made, kept)

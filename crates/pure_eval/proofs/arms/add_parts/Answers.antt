@@ -15,7 +15,7 @@ ok_weaker (Err e) P Q f h = tt
 
 pub returns-in-Tuple-Tuple : goal.returns-in-Tuple-Tuple
 returns-in-Tuple-Tuple c =
-    let view = c.value.view_is in
+    let view = c.into_node-node.ensures in
     let node = ap value_of c.in-Tuple-Tuple.is-1 in
     let v : c.args.value ≡ tuple (pvalues c.in-Tuple-Tuple.parts) = cc in
     ok_weaker c.add_all.result
@@ -27,7 +27,7 @@ returns-in-Tuple-Tuple c =
 pub returns-in-Ctor-Ctor : goal.returns-in-Ctor-Ctor
 returns-in-Ctor-Ctor c =
     let a = c.in-Ctor-Ctor in
-    let view = c.value.view_is in
+    let view = c.into_node-node.ensures in
     let node = ap value_of a.is-1 in
     let v : c.args.value ≡ built a.field-0-1 (pvalues a.parts) = cc in
     ok_weaker c.add_all-in-Ctor-Ctor.result

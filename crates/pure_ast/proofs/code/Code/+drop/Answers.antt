@@ -1,5 +1,5 @@
 -- Each turn leaves fewer nodes in all.
-use Rattle.std.proofs.Common.{◌≡◌, ◌+◌, ◌*◌, ◌<◌, ◌≤◌, ap, arith}
+use Rattle.std.proofs.Common.{◌+◌, ◌≤◌, ap, arith}
 use Rattle.pure_ast.specs.Code.{nodes_code, nodes_arms, arms}
 use Rattle.pure_ast.specs.CodeFalls.{nodes_waiting}
 use Rattle.pure_ast.specs.CodeView.{code_of}

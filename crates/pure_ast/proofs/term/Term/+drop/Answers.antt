@@ -1,5 +1,5 @@
 -- Each turn leaves fewer nodes in all, or as many and a smaller term.
-use Rattle.std.proofs.Common.{◌≡◌, ◌+◌, ◌*◌, ◌<◌, ◌≤◌, ap, arith}
+use Rattle.std.proofs.Common.{◌+◌, ◌≤◌, ap, arith}
 use Rattle.pure_ast.specs.Terms.{nodes_term, nodes_terms, terms}
 use Rattle.pure_ast.proofs.Dropping.{nodes_taken, fewer_in_all}
 use Rattle.pure_ast.proofs.term.Term.+drop.Goals.{in-None, in-Some-parts_of+then-is_empty, in-Some-parts_of+else-is_empty+else-not-is_empty}

@@ -1,0 +1,40 @@
+-- Each turn leaves fewer nodes in all, or as many and a smaller value.
+use Rattle.std.proofs.Common.{◌+◌, ◌≤◌, ap, arith}
+use Rattle.pure_ast.specs.Values.{nodes_pvalue, nodes_pvalues, pvalues}
+use Rattle.pure_ast.proofs.Dropping.{values_taken, fewer_in_all}
+use Rattle.pure_ast.proofs.value.PValue.+drop.Goals.{in-None, in-Some-parts_of+then-is_empty, in-Some-parts_of+else-is_empty+else-not-is_empty}
+use Rattle.pure_ast.proofs.value.PValue.+drop.Goals as goal
+
+pub loop-parts-init : goal.loop-parts-init
+loop-parts-init t c =
+    let same = ap nodes_pvalue c.self.view_is in
+    let all = c.in-Some.ensures in
+    let taken = values_taken c.in-Some.left c.pop.new.self c.in-Some-pop.first c.in-Some-pop.ensures in
+    omega (arith, same, all, taken)
+
+pub loop-parts-smaller : goal.loop-parts-smaller
+loop-parts-smaller t c =
+    let same = ap nodes_pvalue c.self-in-loop-parts.view_is in
+    let left : nodes_pvalues (pvalues c.match-parts_of-2.left) + 1 ≤ nodes_pvalue c.loop-parts.self + nodes_pvalues (pvalues c.loop-parts.left) =
+    elim c.match-parts_of-2.branch [
+      | in-None w ↦ let a = w.in-None.ensures in let b = ap (λ xs. nodes_pvalues (pvalues xs)) w.left-is in omega (arith, same, a, b)
+      | in-Some-parts_of+then-is_empty w ↦ let a = w.in-Some-parts_of.ensures in let b = ap (λ xs. nodes_pvalues (pvalues xs)) w.left-is in omega (arith, same, a, b)
+      | in-Some-parts_of+else-is_empty+else-not-is_empty w ↦ let a = w.in-Some-parts_of.ensures in let b = ap (λ xs. nodes_pvalues (pvalues xs)) w.left-is in omega (arith, same, a, b)
+    ] in
+    let taken = values_taken c.match-parts_of-2.left c.pop-in-loop-parts.new.self c.in-Some-pop-2.next c.in-Some-pop-2.ensures in
+    let small : nodes_pvalue c.loop-parts.self + nodes_pvalues (pvalues c.loop-parts.left) ≤ nodes_pvalue c.args.self = c.loop-parts.invariant in
+    fewer_in_all (nodes_pvalue c.loop-parts.self + nodes_pvalues (pvalues c.loop-parts.left)) (nodes_pvalue c.in-Some-pop-2.next + nodes_pvalues (pvalues c.pop-in-loop-parts.new.self)) (nodes_pvalue c.loop-parts.self) (nodes_pvalue c.in-Some-pop-2.next) (nodes_pvalue c.args.self)
+    (omega (arith, left, taken)) (omega (arith, left, taken, small))
+
+pub loop-parts-preserved : goal.loop-parts-preserved
+loop-parts-preserved t c =
+    let same = ap nodes_pvalue c.self-in-loop-parts.view_is in
+    let left : nodes_pvalues (pvalues c.match-parts_of-2.left) + 1 ≤ nodes_pvalue c.loop-parts.self + nodes_pvalues (pvalues c.loop-parts.left) =
+    elim c.match-parts_of-2.branch [
+      | in-None w ↦ let a = w.in-None.ensures in let b = ap (λ xs. nodes_pvalues (pvalues xs)) w.left-is in omega (arith, same, a, b)
+      | in-Some-parts_of+then-is_empty w ↦ let a = w.in-Some-parts_of.ensures in let b = ap (λ xs. nodes_pvalues (pvalues xs)) w.left-is in omega (arith, same, a, b)
+      | in-Some-parts_of+else-is_empty+else-not-is_empty w ↦ let a = w.in-Some-parts_of.ensures in let b = ap (λ xs. nodes_pvalues (pvalues xs)) w.left-is in omega (arith, same, a, b)
+    ] in
+    let taken = values_taken c.match-parts_of-2.left c.pop-in-loop-parts.new.self c.in-Some-pop-2.next c.in-Some-pop-2.ensures in
+    let small : nodes_pvalue c.loop-parts.self + nodes_pvalues (pvalues c.loop-parts.left) ≤ nodes_pvalue c.args.self = c.loop-parts.invariant in
+    omega (arith, left, taken, small)
