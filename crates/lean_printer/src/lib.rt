@@ -1,7 +1,6 @@
 //! Prints definitions as a text (docs/TEXT.md, "Layout").
 #![tactic(auto)]
 
-mod bare;
 mod code;
 mod declarations;
 mod definitions;

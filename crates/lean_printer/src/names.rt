@@ -3,11 +3,11 @@ ghost use Rattle.std.specs.Prelude.{◌≡◌, ◌∷◌, ◌++◌, OnOk, string
 ghost use Rattle.text_meaning.specs.Lookups as lookups;
 ghost use Rattle.text_meaning.specs.ShownNames as spec;
 
-use crate::bare::is_bare;
 use crate::put::{put, put_decimal};
 use crate::words::{arith_word, bool_word, compare_word, int_word};
 use aen_base::{Builtin, DefId, FnId, NoMem, TypeId, at};
 use pure_ast::{CtorId, DefKind, Defs, Primitive};
+use text_meaning::is_bare;
 
 /// Adds a name, between marks where it may not stand as it is.
 pub(crate) fn put_name(out: &mut String, name: &str) -> Result<(), NoMem>

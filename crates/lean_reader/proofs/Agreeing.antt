@@ -9,6 +9,7 @@ use Rattle.pure_ast.specs.declared.def.DefKind.{DefKind}
 use Rattle.pure_ast.specs.declared.def.Defs.{Defs}
 use Rattle.pure_ast.specs.declared.def.PType.{PType}
 use Rattle.text_meaning.specs.Lookups.{Variant}
+use Rattle.text_meaning.specs.WellFormed.{IsWellFormed}
 use Rattle.lean_reader.specs.declared.outline.TypeHead.{TypeHead}
 use Rattle.lean_reader.specs.declared.outline.VariantHead.{VariantHead}
 use Rattle.lean_reader.specs.Calls.{definition_name_of}
@@ -18,7 +19,7 @@ use Rattle.lean_reader.specs.Naming.{same_kind, find_kind, definition_in, enviro
 use Rattle.lean_reader.specs.Outlines as o
 use Rattle.lean_reader.specs.Types.{type_id}
 use Rattle.lean_reader.proofs.Agreement.{Agrees}
-use Rattle.lean_reader.proofs.Naming.{HeadsFit, environment_agrees}
+use Rattle.lean_reader.proofs.Naming.{environment_agrees, heads_fit}
 
 -- what is found among heads is the head of what is found
 module _ {A B : Type 0} (head : A → B) where
@@ -86,5 +87,6 @@ outline_environment d = λ i. record {
   definition_of = λ f t b. same_definition d f t b i;
 }
 
-pub outline_agrees : (d : Defs) → HeadsFit d → Agrees (o.environment (o.outline_of d)) d
-outline_agrees d g = subst (λ e. Agrees e d) (sym (outline_environment d)) (environment_agrees d g)
+-- the outline of well-formed definitions
+pub outline_agrees : (d : Defs) → IsWellFormed d → Agrees (o.environment (o.outline_of d)) d
+outline_agrees d g = subst (λ e. Agrees e d) (sym (outline_environment d)) (environment_agrees d (heads_fit d g))

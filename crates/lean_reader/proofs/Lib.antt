@@ -34,7 +34,6 @@ pub mod Naming
 pub mod Pieces
 pub mod Parts
 pub mod PuttingIn
-pub mod OutlineNames
 pub mod Typed
 pub mod ValueReading
 pub mod ArgumentLists

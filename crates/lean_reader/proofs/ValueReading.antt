@@ -30,7 +30,7 @@ use Rattle.lean_reader.specs.declared.outline.Outline.{Outline}
 use Rattle.lean_reader.specs.Outlines.{environment, outline_of}
 use Rattle.text_meaning.specs.WellFormed.{IsWellFormed}
 use Rattle.std.proofs.lemmas.Result.{IfOk-weaker}
-use Rattle.lean_reader.proofs.OutlineNames.{outline_agrees}
+use Rattle.lean_reader.proofs.Agreeing.{outline_agrees}
 use Rattle.lean_reader.proofs.Agreement.{Agrees, IsPlaced}
 use Rattle.lean_reader.proofs.Proper.{term_proper, type_proper}
 use Rattle.lean_reader.proofs.Standing.{Reads, stand_same}

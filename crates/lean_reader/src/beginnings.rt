@@ -6,13 +6,12 @@ ghost use Rattle.lean_reader.specs.Single as spec;
 ghost use Rattle.text_tokens.specs.declared.lexeme.LexemeKind.TheVariants.{Word};
 
 use crate::ReadFault;
-use crate::bare::is_bare;
 use crate::cursor::Reader;
 use crate::digits::number_of;
 use crate::frames::Head;
 use crate::variables::after_prefix;
 use aen_base::Num;
-use text_meaning::Mark;
+use text_meaning::{Mark, is_bare};
 use text_tokens::LexemeKind;
 
 impl<'a> Reader<'a> {

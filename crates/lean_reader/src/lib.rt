@@ -3,7 +3,6 @@
 
 mod arguments;
 mod atoms;
-mod bare;
 mod beginnings;
 mod bindings;
 mod by_name;

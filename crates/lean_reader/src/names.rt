@@ -6,7 +6,7 @@ ghost use Rattle.lean_reader.specs.Single as spec;
 ghost use Rattle.lean_reader.specs.Parser.{Gives};
 
 use crate::ReadFault;
-use crate::bare::is_bare;
+use text_meaning::is_bare;
 use crate::cursor::Reader;
 use aen_base::Name;
 use std::alloc::Global;

@@ -9,7 +9,7 @@ ghost use Rattle.text_meaning.specs.ShownNames.{name_text, function_text, kind_t
 ghost use Rattle.lean_reader.specs.NamedDefinitions.{NoneNamed, IsNamed};
 ghost use Rattle.lean_reader.specs.Pieces as spec;
 
-use crate::bare::is_bare;
+use text_meaning::is_bare;
 use aen_base::{DefId, FnId, at};
 use itoa::Buffer;
 use pure_ast::{DefKind, Defs};

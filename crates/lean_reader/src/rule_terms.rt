@@ -1,13 +1,12 @@
 //! The rules on atoms and patterns: numbers in range, declared constructors with all their parts.
 
-use crate::bare::is_bare;
 use crate::digits::number_of;
 use crate::rule_cursor::Checker;
 use crate::spelled::is_mark;
 use crate::words::int_of;
 use aen_base::{List, NoMem};
 use std::alloc::Global;
-use text_meaning::Mark;
+use text_meaning::{Mark, is_bare};
 use text_tokens::LexemeKind;
 
 /// A constructor's or definition's name: the place of its last lexeme, and how many parts it has,

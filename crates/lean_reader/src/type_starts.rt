@@ -10,7 +10,6 @@ ghost use Rattle.lean_reader.specs.Types as spec;
 ghost use Rattle.lean_reader.specs.declared.frames.TypeFrame.{TypeFrame};
 
 use crate::ReadFault;
-use crate::bare::is_bare;
 use crate::cursor::Reader;
 use crate::frames::{TypeFrame, TypeStart};
 use crate::places::Places;
@@ -19,7 +18,7 @@ use crate::words::int_of;
 use aen_base::{List, Name, TypeId};
 use pure_ast::PTy;
 use std::alloc::Global;
-use text_meaning::Mark;
+use text_meaning::{Mark, is_bare};
 use text_tokens::LexemeKind;
 
 /// What is read of a type at first.

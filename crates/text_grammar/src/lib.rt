@@ -1,7 +1,6 @@
 //! Where the tokens of a printed text leave its grammar (docs/TEXT.md, "Grammar").
 #![tactic(auto)]
 
-mod bare;
 mod laws;
 mod recognizer;
 mod symbol;
@@ -10,6 +9,5 @@ mod table;
 mod tests;
 mod words;
 
-pub use bare::is_bare;
 pub use laws::spellings_are_grammatical;
 pub use recognizer::grammar_fault;

@@ -6,9 +6,8 @@ ghost use Rattle.text_grammar.specs.Tests as spec;
 ghost use Rattle.text_grammar.specs.declared.symbol.Terminal.TheVariants as T;
 ghost use Rattle.text_tokens.specs.declared.lexeme.LexemeKind.TheVariants as L;
 
-use crate::bare::{are_digits, is_bare, is_int_word, is_variable};
 use crate::symbol::Terminal;
-use text_meaning::Mark;
+use text_meaning::{Mark, are_digits, is_bare, is_int_word, is_variable};
 use text_tokens::LexemeKind;
 
 /// Whether a lexeme is this token of the grammar.

@@ -3,9 +3,11 @@
 //! evaluator of texts meet.
 #![tactic(auto)]
 
+mod bare;
 mod mark;
 
 use aen_base::PanicKind;
+pub use bare::{are_digits, is_bare, is_int_word, is_variable};
 pub use mark::Mark;
 use pure_ast::PValue;
 

@@ -6,7 +6,7 @@ ghost use Rattle.text_meaning.specs.Names as spec;
 ghost use Rattle.text_meaning.specs.Words as words;
 
 /// Whether a name is ASCII letters, digits and `_`, no word of the text and no `v` with digits.
-pub(crate) fn is_bare(name: &str) -> bool
+pub fn is_bare(name: &str) -> bool
     ensures { result ≡ spec.is_bare name.now }
 {
     let bytes = name.as_bytes();
@@ -47,7 +47,7 @@ fn are_word_bytes(bytes: &[u8]) -> bool
 }
 
 /// Whether the bytes are `v` with digits.
-fn is_variable(bytes: &[u8]) -> bool
+pub fn is_variable(bytes: &[u8]) -> bool
     ensures { result ≡ spec.is_variable bytes.now }
 {
     match bytes {
@@ -56,7 +56,8 @@ fn is_variable(bytes: &[u8]) -> bool
     }
 }
 
-fn are_digits(bytes: &[u8]) -> bool
+/// Whether the bytes are decimal digits, at least one.
+pub fn are_digits(bytes: &[u8]) -> bool
     ensures { result ≡ spec.are_digits bytes.now }
 {
     !bytes.is_empty() && all_digits(bytes)
@@ -122,7 +123,8 @@ fn is_part_word(name: &str) -> bool
         || name == "back"
 }
 
-fn is_int_word(name: &str) -> bool
+/// Whether the word is an integer type of the text.
+pub fn is_int_word(name: &str) -> bool
     ensures { result ≡ list_any (bytes_eq name.now) words.int_words }
 {
     name == "U8"
