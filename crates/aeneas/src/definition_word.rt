@@ -18,7 +18,10 @@ pub struct DefinitionWord<'a> {
 
 /// The parts of DEF; None exactly where the word isn't of the form. The only error is want of
 /// memory.
-pub fn definition_word<'a>(alloc: Global, word: &'a str) -> Result<Option<DefinitionWord<'a>>, NoMem>
+pub fn definition_word<'a>(
+    alloc: Global,
+    word: &'a str,
+) -> Result<Option<DefinitionWord<'a>>, NoMem>
     ensures { IfOk result (λ o. MatchOption o ((name : List ℕ) (pieces : List (List ℕ)) → IsDefinitionWord word.now name pieces → ⊥) (λ w. IsOnly word.now w.name.now (map string_bytes w.types.items))) }
 {
     let Some((name, rest)) = word.split_once(':') else {

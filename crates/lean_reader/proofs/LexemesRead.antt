@@ -1,5 +1,5 @@
 -- What is read of lexemes under their outline is what they stand for.
-use Rattle.std.proofs.Common.{◌≡◌, refl, ap, sym, ◌∙◌, subst, Bool, true, false, List, [], ◌∷◌, Option, Some, None}
+use Rattle.std.proofs.Common.{◌≡◌, ap, sym, ◌∙◌, subst, true, false, List, [], Some, None}
 use Rattle.pure_ast.specs.declared.def.Def.{Def}
 use Rattle.pure_ast.specs.declared.def.Defs.{Defs}
 use Rattle.pure_ast.specs.declared.def.PType.{PType}
@@ -13,7 +13,7 @@ use Rattle.lean_reader.specs.Outlining as o
 use Rattle.lean_reader.specs.Parser.{Tokens, Gives}
 use Rattle.std.specs.Prelude.{Err}
 use Rattle.lean_reader.specs.Texts.{text}
-use Rattle.lean_reader.proofs.Singles.{pair_some, pack}
+use Rattle.lean_reader.proofs.Singles.{pair_some}
 use Rattle.lean_reader.proofs.TermsComplete.{Read}
 use Rattle.lean_reader.proofs.WholeTexts.{read_is_text, text_is_read}
 

@@ -1,14 +1,13 @@
 -- What a text's lexemes are is what the text is.
-use Rattle.std.proofs.Common.{◌≡◌, refl, ap, sym, ◌∙◌, subst, ℕ, Bool, true, false, List, [], ◌∷◌, Option, Some, None}
+use Rattle.std.proofs.Common.{◌≡◌, refl, sym, ◌∙◌, ℕ, true, false, List, Option, Some, None}
 use Rattle.std.specs.Prelude.{is_some}
 use Rattle.pure_ast.specs.declared.def.Defs.{Defs}
 use Rattle.text_meaning.specs.Reading.{ReadsText}
 use Rattle.text_meaning.specs.Spelled.{tokens_of}
-use Rattle.text_tokens.specs.Stands.{AreLexemes, HasNoTokens}
+use Rattle.text_tokens.specs.Stands.{AreLexemes}
 use Rattle.lean_reader.specs.Lexemes.{AreDefs, AreOnly, AreNone}
 use Rattle.lean_reader.specs.Parser.{Tokens}
 use Rattle.lean_reader.specs.Reading.{IsRead, IsUnread, IsNested}
-use Rattle.lean_reader.specs.ValueWords.{few_open}
 use Rattle.lean_reader.specs.WordReading.{few_lexemes}
 use Rattle.lean_reader.proofs.Proper.{reading_lexed}
 use Rattle.lean_reader.proofs.ValueReading.{few_same}

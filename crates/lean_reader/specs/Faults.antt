@@ -1,5 +1,5 @@
 -- The place of a text's first fault (TEXT.md, "Faults").
-use Rattle.std.specs.Prelude.{◌≡◌, ℕ, ◌<◌, ◌⊎◌, List, length, Some, None, slice_get}
+use Rattle.std.specs.Prelude.{◌≡◌, ℕ, ◌⊎◌, List, length, Some, None, slice_get}
 use Rattle.aen_base.specs.declared.span.Span.{Span}
 use Rattle.text_tokens.specs.declared.lexeme.Lexeme.{Lexeme}
 use Rattle.text_tokens.specs.declared.lexeme.Lexemes.{Lexemes}

@@ -1,6 +1,5 @@
 -- What `read_defs` answers (PROMISES.md, "Each tool meets its meaning").
 use Rattle.std.specs.Prelude.{◌≡◌, ℕ, true, false, List}
-use Rattle.aen_base.specs.declared.limits.Which.{Which}
 use Rattle.aen_base.specs.declared.limits.Which.TheVariants.{TextNesting}
 use Rattle.pure_ast.specs.declared.def.Defs.{Defs}
 use Rattle.text_meaning.specs.Reading.{ReadsText}

@@ -6,10 +6,10 @@ ghost use Rattle.lean_reader.specs.Single as spec;
 ghost use Rattle.lean_reader.specs.Parser.{Gives};
 
 use crate::ReadFault;
-use text_meaning::is_bare;
 use crate::cursor::Reader;
 use aen_base::Name;
 use std::alloc::Global;
+use text_meaning::is_bare;
 use text_tokens::LexemeKind;
 
 impl<'a> Reader<'a> {

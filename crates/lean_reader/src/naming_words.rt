@@ -9,10 +9,10 @@ ghost use Rattle.text_meaning.specs.ShownNames.{name_text, function_text, kind_t
 ghost use Rattle.lean_reader.specs.NamedDefinitions.{NoneNamed, IsNamed};
 ghost use Rattle.lean_reader.specs.Pieces as spec;
 
-use text_meaning::is_bare;
 use aen_base::{DefId, FnId, at};
 use itoa::Buffer;
 use pure_ast::{DefKind, Defs};
+use text_meaning::is_bare;
 
 /// The first definition whose name is printed as these bytes; None exactly where no definition that
 /// has a number, which is below 2^32, is printed so. It takes no memory.

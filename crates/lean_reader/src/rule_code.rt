@@ -196,13 +196,7 @@ fn arity(primitive: &Primitive) -> usize {
     match primitive {
         Primitive::Arith(_, _) => 2,
         Primitive::Compare(_, _) => 2,
-        Primitive::Bools(op) => {
-            if *op == BoolOp::Not {
-                1
-            } else {
-                2
-            }
-        }
+        Primitive::Bools(op) => { if *op == BoolOp::Not { 1 } else { 2 } }
         Primitive::Forward(Builtin::BoxNew) => 1,
         Primitive::Forward(_) => 2,
         Primitive::Back(_, _) => 2,

@@ -3,13 +3,12 @@
 use crate::places::Places;
 use crate::rule_cursor::Checker;
 use crate::spelled::is_mark;
+use crate::tables::Tables;
 use aen_base::{List, Name, NoMem};
 use indexmap::IndexMap;
 use std::alloc::Global;
 use text_meaning::Mark;
 use text_tokens::{Lexeme, LexemeKind};
-
-use crate::tables::Tables;
 
 /// The names of the type parameters of earlier types.
 type Parameters = IndexMap<Name, u32>;

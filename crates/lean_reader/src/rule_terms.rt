@@ -44,7 +44,11 @@ fn begins_atom(kind: &LexemeKind) -> bool {
     match kind {
         LexemeKind::Word(word) => {
             let text = word.as_str();
-            is_bare(text) || text == "true" || text == "false" || text == "Exit" || is_variable(kind)
+            is_bare(text)
+                || text == "true"
+                || text == "false"
+                || text == "Exit"
+                || is_variable(kind)
         }
         LexemeKind::Marked(_) => true,
         LexemeKind::Number(_) => true,
@@ -119,11 +123,17 @@ impl<'a> Checker<'a> {
         let last = self.place();
         self.skip();
         let (Some(ty), Some(variant)) = (ty, variant) else {
-            return Named { place: last, parts: None };
+            return Named {
+                place: last,
+                parts: None,
+            };
         };
         if self.tables.type_of(ty).is_none() {
             self.broken(place);
-            return Named { place: last, parts: None };
+            return Named {
+                place: last,
+                parts: None,
+            };
         }
         match self.tables.constructor_of(ty, variant) {
             Some((_, parts)) => Named {
@@ -132,7 +142,10 @@ impl<'a> Checker<'a> {
             },
             None => {
                 self.broken(last);
-                Named { place: last, parts: None }
+                Named {
+                    place: last,
+                    parts: None,
+                }
             }
         }
     }

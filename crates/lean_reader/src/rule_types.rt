@@ -23,7 +23,10 @@ impl<'a> Checker<'a> {
         let place = self.place();
         self.skip();
         if places.place_of(name).is_some() {
-            return Named { place, parts: Some(0) };
+            return Named {
+                place,
+                parts: Some(0),
+            };
         }
         match self.tables.type_of(name) {
             Some((_, parts)) => Named {

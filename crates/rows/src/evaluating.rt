@@ -2,25 +2,44 @@ use crate::table::{GOOD, Row, gives};
 use aen_base::NoMem;
 
 /// A text with a list, a structure, type parameters, both ways out of a loop, and calls.
-const TEXT: &[u8] = b"import AenPrelude\nopen AenPrelude\n\ninductive L (T : Type) where\n  | nil : L T\n  | cons : T \xe2\x86\x92 (L T) \xe2\x86\x92 L T\n\nstructure P where\n  (x : U8)\n  (y : I64)\n\ndef fn.sum (n : Nat) (v0 : (L U32)) : Result U32 :=\n  match n with\n  | 0 => outOfFuel\n  | n + 1 => do\n    (match v0 with\n    | L.nil => do\n      ok 0#U32\n    | L.cons v1 v2 => do\n      let v3 \xe2\x86\x90 fn.sum n v2;\n      U32.add v1 v3)\n\ndef fn.swap {A : Type} {B : Type} (n : Nat) (v0 : (A \xc3\x97 B)) : Result (B \xc3\x97 A) :=\n  match n with\n  | 0 => outOfFuel\n  | n + 1 => do\n    (match v0 with\n    | (v1, v2) => do\n      ok (v2, v1))\n\ndef fn.swap.back0 {A : Type} (n : Nat) (v0 : A) : Result A :=\n  match n with\n  | 0 => outOfFuel\n  | n + 1 => do\n    ok v0\n\ndef fn.make (n : Nat) (v0 : U8) (v1 : I64) : Result P :=\n  match n with\n  | 0 => outOfFuel\n  | n + 1 => do\n    ok (P.mk v0 v1)\n\ndef fn.out (n : Nat) (v0 : Bool) : Result (Exit U32 Unit) :=\n  match n with\n  | 0 => outOfFuel\n  | n + 1 => do\n    (match v0 with\n    | true => do\n      ok (Exit.brk 7#U32)\n    | false => do\n      ok (Exit.ret ()))\n\ndef fn.stop (n : Nat) : Result Unit :=\n  match n with\n  | 0 => outOfFuel\n  | n + 1 => do\n    fail\n\ndef fn.neg (n : Nat) (v0 : I8) : Result I8 :=\n  match n with\n  | 0 => outOfFuel\n  | n + 1 => do\n    I8.neg v0\n\ndef fn.wide (n : Nat) (v0 : I8) : Result U128 :=\n  match n with\n  | 0 => outOfFuel\n  | n + 1 => do\n    cast.I8.U128 v0\n\ndef fn.\xc2\xab\xc3\xa9\xc2\xbb (n : Nat) (v0 : Unit) : Result Unit :=\n  match n with\n  | 0 => outOfFuel\n  | n + 1 => do\n    ok v0\n\ndef fn.half (n : Nat) (v0 : Bool) : Result Unit :=\n  match n with\n  | 0 => outOfFuel\n  | n + 1 => do\n    (match v0 with\n    | true => do\n      ok ())\n\ndef fn.unbound (n : Nat) : Result U32 :=\n  match n with\n  | 0 => outOfFuel\n  | n + 1 => do\n    ok v9\n";
+const TEXT: &[u8] =
+    b"import AenPrelude\nopen AenPrelude\n\ninductive L (T : Type) where\n  | nil : L T\n  | cons : T \xe2\x86\x92 (L T) \xe2\x86\x92 L T\n\nstructure P where\n  (x : U8)\n  (y : I64)\n\ndef fn.sum (n : Nat) (v0 : (L U32)) : Result U32 :=\n  match n with\n  | 0 => outOfFuel\n  | n + 1 => do\n    (match v0 with\n    | L.nil => do\n      ok 0#U32\n    | L.cons v1 v2 => do\n      let v3 \xe2\x86\x90 fn.sum n v2;\n      U32.add v1 v3)\n\ndef fn.swap {A : Type} {B : Type} (n : Nat) (v0 : (A \xc3\x97 B)) : Result (B \xc3\x97 A) :=\n  match n with\n  | 0 => outOfFuel\n  | n + 1 => do\n    (match v0 with\n    | (v1, v2) => do\n      ok (v2, v1))\n\ndef fn.swap.back0 {A : Type} (n : Nat) (v0 : A) : Result A :=\n  match n with\n  | 0 => outOfFuel\n  | n + 1 => do\n    ok v0\n\ndef fn.make (n : Nat) (v0 : U8) (v1 : I64) : Result P :=\n  match n with\n  | 0 => outOfFuel\n  | n + 1 => do\n    ok (P.mk v0 v1)\n\ndef fn.out (n : Nat) (v0 : Bool) : Result (Exit U32 Unit) :=\n  match n with\n  | 0 => outOfFuel\n  | n + 1 => do\n    (match v0 with\n    | true => do\n      ok (Exit.brk 7#U32)\n    | false => do\n      ok (Exit.ret ()))\n\ndef fn.stop (n : Nat) : Result Unit :=\n  match n with\n  | 0 => outOfFuel\n  | n + 1 => do\n    fail\n\ndef fn.neg (n : Nat) (v0 : I8) : Result I8 :=\n  match n with\n  | 0 => outOfFuel\n  | n + 1 => do\n    I8.neg v0\n\ndef fn.wide (n : Nat) (v0 : I8) : Result U128 :=\n  match n with\n  | 0 => outOfFuel\n  | n + 1 => do\n    cast.I8.U128 v0\n\ndef fn.\xc2\xab\xc3\xa9\xc2\xbb (n : Nat) (v0 : Unit) : Result Unit :=\n  match n with\n  | 0 => outOfFuel\n  | n + 1 => do\n    ok v0\n\ndef fn.half (n : Nat) (v0 : Bool) : Result Unit :=\n  match n with\n  | 0 => outOfFuel\n  | n + 1 => do\n    (match v0 with\n    | true => do\n      ok ())\n\ndef fn.unbound (n : Nat) : Result U32 :=\n  match n with\n  | 0 => outOfFuel\n  | n + 1 => do\n    ok v9\n";
 
 /// The answers are those of the independent reference.
 const CALLS: &[Row] = &[
     Row {
         content: TEXT,
-        words: &["eval", "a.rs", "fn.sum", "9", "(L.cons 1#U32 (L.cons 2#U32 L.nil))"],
+        words: &[
+            "eval",
+            "a.rs",
+            "fn.sum",
+            "9",
+            "(L.cons 1#U32 (L.cons 2#U32 L.nil))",
+        ],
         status: 0,
         text: "ok 3#U32\n",
     },
     Row {
         content: TEXT,
-        words: &["eval", "a.rs", "fn.sum", "2", "(L.cons 1#U32 (L.cons 2#U32 L.nil))"],
+        words: &[
+            "eval",
+            "a.rs",
+            "fn.sum",
+            "2",
+            "(L.cons 1#U32 (L.cons 2#U32 L.nil))",
+        ],
         status: 21,
         text: "outOfFuel\n",
     },
     Row {
         content: TEXT,
-        words: &["eval", "a.rs", "fn.sum", "9", "(L.cons 4294967295#U32 (L.cons 1#U32 L.nil))"],
+        words: &[
+            "eval",
+            "a.rs",
+            "fn.sum",
+            "9",
+            "(L.cons 4294967295#U32 (L.cons 1#U32 L.nil))",
+        ],
         status: 20,
         text: "fail\n",
     },
@@ -38,7 +57,13 @@ const CALLS: &[Row] = &[
     },
     Row {
         content: TEXT,
-        words: &["eval", "a.rs", "fn.swap::<U8, (L P)>", "1", "(255#U8, (L.cons (P.mk 1#U8 -2#I64) L.nil))"],
+        words: &[
+            "eval",
+            "a.rs",
+            "fn.swap::<U8, (L P)>",
+            "1",
+            "(255#U8, (L.cons (P.mk 1#U8 -2#I64) L.nil))",
+        ],
         status: 0,
         text: "ok ((L.cons (P.mk 1#U8 -2#I64) L.nil), 255#U8)\n",
     },
@@ -74,7 +99,14 @@ const CALLS: &[Row] = &[
     },
     Row {
         content: TEXT,
-        words: &["eval", "a.rs", "fn.make", "1", "255#U8", "-9223372036854775808#I64"],
+        words: &[
+            "eval",
+            "a.rs",
+            "fn.make",
+            "1",
+            "255#U8",
+            "-9223372036854775808#I64",
+        ],
         status: 0,
         text: "ok (P.mk 255#U8 -9223372036854775808#I64)\n",
     },
