@@ -38,6 +38,8 @@ mod primitives;
 mod putting_in;
 mod read;
 mod repetitions;
+#[cfg(test)]
+mod round_trip_tests;
 mod rule_code;
 mod rule_cursor;
 mod rule_heads;
