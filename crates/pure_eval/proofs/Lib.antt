@@ -10,3 +10,4 @@ pub mod KeptPatterns
 pub mod KeptPrimitives
 pub mod KeptCode
 pub mod Keeping
+pub mod Copied

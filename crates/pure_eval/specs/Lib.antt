@@ -2,3 +2,4 @@ pub mod Ascending
 pub mod Unwinding
 pub mod Operands
 pub mod Costs
+pub mod Copying

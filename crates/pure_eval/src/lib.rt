@@ -1,6 +1,6 @@
 //! Computes the answer of a definition of a printed text on its arguments (docs/TEXT.md, "Meaning").
-//! Pending work stands in a vector, so that neither the fuel nor the length of a definition's code
-//! takes stack; only the depth of a term or of a value does.
+//! Pending work stands in a vector, so that neither the fuel, nor the length of a definition's code,
+//! nor the depth of a value takes stack; only the depth of a term does.
 #![tactic(auto)]
 
 mod arms;

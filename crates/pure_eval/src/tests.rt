@@ -1,4 +1,4 @@
-//! Two definitions: the sum of a number and 1, and a loop of sums.
+//! Three definitions: the sum of a number and 1, a loop of sums, and the value of an argument.
 
 ghost use Rattle.std.specs.Prelude.{◌≡◌};
 
@@ -112,5 +112,45 @@ fn sums_in_a_loop(rt: HostRuntime) -> Result<(), Fail> {
     let arguments = [number(IntTy::U64, 0), number(IntTy::U64, 0)];
     let answer = eval(alloc, &defs, DefId(0), &arguments, 1_000_000)?;
     assert_eq!(rt; magnitude(answer), Some(499_998_500_001));
+    Ok(())
+}
+
+/// A number under as many tuples of one part as `depth` says.
+fn nested(alloc: Global, depth: u64) -> Result<PValue, NoMem> {
+    let mut value = number(IntTy::U32, 7);
+    for _ in 0..depth {
+        let mut parts = List::new(alloc);
+        parts.push(value)?;
+        value = PValue::tuple(parts);
+    }
+    Ok(value)
+}
+
+/// What is under as many tuples as `depth` says.
+fn under(value: PValue, depth: u64) -> Option<PValue> {
+    let mut value = value;
+    for _ in 0..depth {
+        let PValueNode::Tuple(mut parts) = value.into_node() else {
+            return None;
+        };
+        value = parts.pop()?;
+    }
+    Some(value)
+}
+
+#[test]
+fn copies_a_deep_value(rt: HostRuntime) -> Result<(), Fail> {
+    let alloc = rt.alloc();
+    let code = Code::last(Comp::Ok(Term::var(0)));
+    let defs = defs_of(alloc, DefKind::Forward(FnId(0)), code)?;
+    let arguments = [nested(alloc, 1_000_000)?];
+    let answer = eval(alloc, &defs, DefId(0), &arguments, 1)?;
+    let Answer::Ok(value) = answer else {
+        return Ok(assert!(rt; false));
+    };
+    let Some(value) = under(value, 1_000_000) else {
+        return Ok(assert!(rt; false));
+    };
+    assert_eq!(rt; magnitude(Answer::Ok(value)), Some(7));
     Ok(())
 }
