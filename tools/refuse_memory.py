@@ -42,7 +42,19 @@ int posix_memalign(void **p, size_t a, size_t n) {
 """
 
 SOURCE = "fn f(a: u32, b: u32) -> u32 { let c = a + b; c + 1 } fn g(x: u32) -> u32 { f(x, 2) + x }\n"
-COMMANDS = [["translate", "a.rs"], ["run", "a.rs", "g", "2", "5"], ["run", "a.rs", "g", "2"], ["translate", "no.rs"], []]
+TEXT = os.path.join(os.path.dirname(os.path.abspath(__file__)), "..", "examples", "list.lean")
+CALL = ["fn.first::<U8>", "1", "(List.cons 7#U8 (List.cons 8#U8 List.nil))", "0#U8"]
+COMMANDS = [
+    ["translate", "a.rs"],
+    ["run", "a.rs", "g", "2", "5"],
+    ["run", "a.rs", "g", "2"],
+    ["eval", "a.lean"] + CALL,
+    ["eval", "a.lean"] + CALL[:-1] + ["0#U16"],
+    ["eval", "rule.lean"] + CALL,
+    ["eval", "cut.lean"] + CALL,
+    ["translate", "no.rs"],
+    [],
+]
 
 
 def main():
@@ -53,6 +65,12 @@ def main():
         subprocess.run(["cc", "-shared", "-fPIC", "-O1", "-o", "shim.so", "shim.c", "-ldl"], cwd=folder, check=True)
         with open(os.path.join(folder, "a.rs"), "w") as file:
             file.write(SOURCE)
+        with open(TEXT, encoding="utf-8") as file:
+            text = file.read()
+        broken = {"a.lean": text, "rule.lean": text.replace("fn.sum n v2", "fn.total n v2"), "cut.lean": text[:-9]}
+        for name, content in broken.items():
+            with open(os.path.join(folder, name), "w", encoding="utf-8") as file:
+                file.write(content)
         bad = 0
         for words in COMMANDS:
             whole = subprocess.run([program] + words, cwd=folder, stdout=subprocess.PIPE)
