@@ -1,6 +1,6 @@
 -- The signs of tokens, and how many there are in the tokens of declarations.
-use Rattle.std.proofs.Common.{◌≡◌, refl, ap, sym, ◌∙◌, ℕ, suc, ◌+◌, ◌≤◌, ◌^◌, Bool, true, false, List, [], ◌∷◌, ◌++◌, length, map, Option, Some, None, append_assoc, arith}
-use Rattle.std.specs.Prelude.{◌||◌, not, if◌then◌else◌, codes, is_some, bytes_eq}
+use Rattle.std.proofs.Common.{◌≡◌, refl, ap, sym, ◌∙◌, ℕ, suc, ◌+◌, ◌≤◌, ◌^◌, Bool, true, false, List, [], ◌∷◌, ◌++◌, length, map, Some, append_assoc, arith}
+use Rattle.std.specs.Prelude.{◌||◌, not, if◌then◌else◌, codes, bytes_eq}
 use Rattle.std.specs.List.{list_all, flat_map}
 use Rattle.aen_base.specs.declared.int_ty.IntTy.{IntTy}
 use Rattle.aen_base.specs.declared.int_ty.IntTy.TheVariants.{U8, U16, U32, U64, U128, Usize, I8, I16, I32, I64, I128, Isize}
@@ -34,9 +34,9 @@ token_sign (number z) = S.Other
 token_sign (mark m) = g.mark_sign m
 
 -- a bare word is no sign
-bare_by : (a b c d : Bool) (o : Option ℕ) → a ≡ false → b ≡ false → c ≡ false → d ≡ false → o ≡ None →
-    (if a then S.Structure else (if b then S.Inductive else (if c then S.Definition else (if d then S.Where else (if is_some o then S.Variable else S.Other))))) ≡ S.Other
-bare_by a b c d o p q r s t = rw (p, q, r, s, t) refl
+bare_by : (a b c d e : Bool) → a ≡ false → b ≡ false → c ≡ false → d ≡ false → e ≡ false →
+    (if a then S.Structure else (if b then S.Inductive else (if c then S.Definition else (if d then S.Where else (if e then S.Variable else S.Other))))) ≡ S.Other
+bare_by a b c d e p q r s t = rw (p, q, r, s, t) refl
 
 not_is : (b : Bool) → not b ≡ true → b ≡ false
 not_is true h = absurd cc
@@ -45,9 +45,9 @@ not_is false h = refl
 bare_sign : (w : List ℕ) → is_bare w ≡ true → g.word_sign w ≡ S.Other
 unfolding g.word_sign
 bare_sign w h =
-    bare_by (bytes_eq w (codes "structure")) (bytes_eq w (codes "inductive")) (bytes_eq w (codes "def")) (bytes_eq w (codes "where")) (after_prefix (codes "v") w)
+    bare_by (bytes_eq w (codes "structure")) (bytes_eq w (codes "inductive")) (bytes_eq w (codes "def")) (bytes_eq w (codes "where")) (is_variable w)
     (not_same w (codes "structure") h refl) (not_same w (codes "inductive") h refl) (not_same w (codes "def") h refl) (not_same w (codes "where") h refl)
-    (no_variable w (not_is (is_variable w) (and_right _ _ (and_right _ _ h))))
+    (not_is (is_variable w) (and_right _ _ (and_right _ _ h)))
 
 pub stands_sign : (k : LexemeKind) (t : Token) → Stands k t → g.sign k ≡ token_sign t
 unfolding g.sign
@@ -194,12 +194,17 @@ ids_no_signs [] = refl
 ids_no_signs (n ∷ ns) = ids_no_signs ns
 
 -- parameters of a definition
-variable_by : (o : Option ℕ) (k : ℕ) → o ≡ Some k → (if is_some o then S.Variable else S.Other) ≡ S.Variable
-variable_by o k h = rw h refl
+variable_by : (b : Bool) → b ≡ true → (if b then S.Variable else S.Other) ≡ S.Variable
+variable_by b h = rw h refl
+
+-- what is read as a variable is one
+is_variable_by : (b : Bool) (w : List ℕ) (k : ℕ) → is_variable w ≡ b → after_prefix (codes "v") w ≡ Some k → b ≡ true
+is_variable_by true w k p h = refl
+is_variable_by false w k p h = let none = no_variable w p in absurd cc
 
 variable_sign : (k : ℕ) → IsSmall k → g.word_sign (var_text k) ≡ S.Variable
 unfolding g.word_sign
-variable_sign k h = variable_by (after_prefix (codes "v") (var_text k)) k (prefix_complete (codes "v") k h)
+variable_sign k h = variable_by (is_variable (var_text k)) (is_variable_by (is_variable (var_text k)) (var_text k) k refl (prefix_complete (codes "v") k h))
 
 pub variables_tally : (d : Defs) (ns : List (List ℕ)) (k : ℕ) (ts : List PTy) → k + length ts ≤ 2 ^ 32 → tally S.Variable S.Becomes (spelled.parameters_tokens d ns k ts) 0 ≡ length ts
 variables_tally d ns k [] h = refl

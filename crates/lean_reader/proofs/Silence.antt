@@ -1,6 +1,6 @@
 -- No declaration begins within the tokens of a type or a definition.
 use Rattle.std.proofs.Common.{◌≡◌, refl, ℕ, Bool, true, false, List, [], ◌∷◌, ◌++◌, map, Option, Some, None}
-use Rattle.std.specs.Prelude.{◌&&◌, not, if◌then◌else◌, codes, is_some, bytes_eq, slice_get}
+use Rattle.std.specs.Prelude.{◌&&◌, not, if◌then◌else◌, codes, bytes_eq, slice_get}
 use Rattle.std.specs.List.{list_all, flat_map}
 use Rattle.aen_base.specs.declared.int_ty.IntTy.{IntTy}
 use Rattle.aen_base.specs.declared.int_ty.IntTy.TheVariants.{U8, U16, U32, U64, U128, Usize, I8, I16, I32, I64, I128, Isize}
@@ -48,14 +48,14 @@ is_silent (mark m) = true
 abbrev pub silent : List Token → Bool
 silent ts = list_all is_silent ts
 
-word_by : (a b c d : Bool) (o : Option ℕ) → (not a && (not b && not c)) ≡ true →
-    g.declares (if a then S.Structure else (if b then S.Inductive else (if c then S.Definition else (if d then S.Where else (if is_some o then S.Variable else S.Other))))) ≡ false
-word_by true b c d o h = absurd cc
-word_by false true c d o h = absurd cc
-word_by false false true d o h = absurd cc
-word_by false false false true o h = refl
-word_by false false false false None h = refl
-word_by false false false false (Some k) h = refl
+word_by : (a b c d e : Bool) → (not a && (not b && not c)) ≡ true →
+    g.declares (if a then S.Structure else (if b then S.Inductive else (if c then S.Definition else (if d then S.Where else (if e then S.Variable else S.Other))))) ≡ false
+word_by true b c d e h = absurd cc
+word_by false true c d e h = absurd cc
+word_by false false true d e h = absurd cc
+word_by false false false true e h = refl
+word_by false false false false true h = refl
+word_by false false false false false h = refl
 
 pub silent_declares : (t : Token) → is_silent t ≡ true → g.declares (token_sign t) ≡ false
 unfolding g.word_sign

@@ -1,8 +1,9 @@
 -- The lexemes by which a text's outline is told.
-use Rattle.std.specs.Prelude.{ℕ, suc, Bool, true, false, ◌||◌, if◌then◌else◌, List, [], ◌∷◌, map, is_some, codes, bytes_eq}
+use Rattle.std.specs.Prelude.{ℕ, suc, Bool, true, false, ◌||◌, if◌then◌else◌, List, [], ◌∷◌, map, codes, bytes_eq}
 use denote.Enum.Bare.{sameb}
 use Rattle.text_meaning.specs.declared.mark.Mark.{Mark}
 use Rattle.text_meaning.specs.declared.mark.Mark.TheVariants as M
+use Rattle.text_meaning.specs.Names.{is_variable}
 use Rattle.text_tokens.specs.declared.lexeme.Lexeme.{Lexeme}
 use Rattle.text_tokens.specs.declared.lexeme.LexemeKind.{LexemeKind}
 use Rattle.text_tokens.specs.declared.lexeme.LexemeKind.TheVariants.{Word, Marked, Number as Digits, Punct}
@@ -10,15 +11,16 @@ use Rattle.lean_reader.specs.contracts.signs.Sign.{the_type}
 use Rattle.lean_reader.specs.declared.signs.Sign.{Sign}
 use Rattle.lean_reader.specs.declared.signs.Sign.TheVariants as S
 use Rattle.lean_reader.specs.Parser.{Tokens}
-use Rattle.lean_reader.specs.Single.{after_prefix}
 
+-- a word: a variable however its number is spelled, so that a head has its parameters even where one
+-- of them breaks a rule
 unfoldable pub word_sign : List ℕ → Sign
 word_sign w =
     if bytes_eq w (codes "structure") then S.Structure
     else (if bytes_eq w (codes "inductive") then S.Inductive
     else (if bytes_eq w (codes "def") then S.Definition
     else (if bytes_eq w (codes "where") then S.Where
-    else (if is_some (after_prefix (codes "v") w) then S.Variable else S.Other))))
+    else (if is_variable w then S.Variable else S.Other))))
 
 abbrev pub mark_sign : Mark → Sign
 mark_sign M.Colon = S.Colon

@@ -3,8 +3,7 @@
 ghost use Rattle.std.specs.Prelude.{◌≡◌};
 ghost use Rattle.lean_reader.specs.Signs as spec;
 
-use crate::variables::after_prefix;
-use text_meaning::Mark;
+use text_meaning::{Mark, is_variable};
 use text_tokens::{Lexeme, LexemeKind};
 
 /// What a lexeme says of a text's outline.
@@ -18,7 +17,7 @@ pub(crate) enum Sign {
     Definition,
     /// `where`
     Where,
-    /// A variable.
+    /// A variable, however its number is spelled.
     Variable,
     /// `:`
     Colon,
@@ -74,7 +73,7 @@ fn of_word(word: &str) -> Sign
     if word == "where" {
         return Sign::Where;
     }
-    if after_prefix(b"v".as_slice(), word.as_bytes()).is_some() {
+    if is_variable(word.as_bytes()) {
         return Sign::Variable;
     }
     Sign::Other
