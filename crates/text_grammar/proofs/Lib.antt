@@ -13,3 +13,4 @@ pub mod MakesTypes
 pub mod MakesTerms
 pub mod MakesCode
 pub mod MakesTexts
+pub mod Erasing

@@ -3,3 +3,5 @@ pub mod Grammar
 pub mod Derivations
 pub mod Choices
 pub mod Laws
+pub mod Attributes
+pub mod Occurrences

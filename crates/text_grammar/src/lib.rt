@@ -1,8 +1,10 @@
 //! Where the tokens of a printed text leave its grammar (docs/TEXT.md, "Grammar").
 #![tactic(auto)]
 
+mod attributed;
 mod laws;
 mod recognizer;
+mod role;
 mod symbol;
 mod table;
 #[cfg(test)]
@@ -11,3 +13,4 @@ mod words;
 
 pub use laws::spellings_are_grammatical;
 pub use recognizer::grammar_fault;
+pub use role::{Occurrence, Role};
