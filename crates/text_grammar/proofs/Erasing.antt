@@ -1,20 +1,9 @@
 -- The grammar with attributes is the grammar, apart from the attributes.
-use Rattle.std.proofs.Common.{◌≡◌, refl, List, map}
-use Rattle.text_grammar.specs.declared.attributed.Attributed.{Attributed}
-use Rattle.text_grammar.specs.declared.attributed.Attributed.TheVariants as A
-use Rattle.text_grammar.specs.declared.symbol.Symbol.{Symbol}
-use Rattle.text_grammar.specs.declared.symbol.Symbol.TheVariants as S
+use Rattle.std.proofs.Common.{◌≡◌, refl, map}
 use Rattle.text_grammar.specs.declared.symbol.Nonterminal.{Nonterminal}
 use Rattle.text_grammar.specs.declared.symbol.Nonterminal.TheVariants as N
-use Rattle.text_grammar.specs.Attributes.{Production, attributed}
+use Rattle.text_grammar.specs.Attributes.{plain_production, attributed}
 use Rattle.text_grammar.specs.Grammar.{productions}
-
-abbrev pub plain : Attributed → Symbol
-plain (A.Token t noting) = S.Token t
-plain (A.Part n counting) = S.Part n
-
-abbrev pub plain_production : Production → List Symbol
-plain_production p = map plain p.symbols
 
 pub same_productions : (n : Nonterminal) → map plain_production (attributed n) ≡ productions n
 same_productions N.Text = refl

@@ -14,3 +14,4 @@ pub mod MakesTerms
 pub mod MakesCode
 pub mod MakesTexts
 pub mod Erasing
+pub mod NotingSteps

@@ -12,7 +12,7 @@ use Rattle.text_grammar.specs.Choices.{ways, chosen, has_empty, replaced, step, 
 use Rattle.text_grammar.specs.Grammar.{productions}
 use Rattle.text_grammar.proofs.Rules.{empty_ways}
 
-pub popped : (old new : List Symbol) (last : Symbol) → old ≡ new ++ last ∷ [] → reverse old ≡ last ∷ reverse new
+pub popped : {A : Type 0} (old new : List A) (last : A) → old ≡ new ++ last ∷ [] → reverse old ≡ last ∷ reverse new
 popped old new last e = ap reverse e ∙ reverse-append new (last ∷ [])
 
 pub takes_some : (o : Option (List Symbol)) (new : List Symbol) → o ≡ Some new → Takes o true new

@@ -10,6 +10,8 @@ use Rattle.text_grammar.specs.declared.attributed.Counting.TheVariants.{Same, Be
 use Rattle.text_grammar.specs.declared.attributed.Noting.TheVariants.{Nothing, Alone, Numbered}
 use Rattle.text_grammar.specs.declared.symbol.Nonterminal.{Nonterminal}
 use Rattle.text_grammar.specs.declared.symbol.Nonterminal.TheVariants as N
+use Rattle.text_grammar.specs.declared.symbol.Symbol.{Symbol}
+use Rattle.text_grammar.specs.declared.symbol.Symbol.TheVariants as S
 use Rattle.text_grammar.specs.declared.symbol.Terminal.{Terminal}
 use Rattle.text_grammar.specs.declared.symbol.Terminal.TheVariants as T
 
@@ -17,6 +19,14 @@ use Rattle.text_grammar.specs.declared.symbol.Terminal.TheVariants as T
 pub record Production : Type 0 where
   pub closes : Option Role
   pub symbols : List Attributed
+
+-- without the attributes
+abbrev pub plain : Attributed → Symbol
+plain (A.Token t how) = S.Token t
+plain (A.Part n counting) = S.Part n
+
+abbrev pub plain_production : Production → List Symbol
+plain_production p = map plain p.symbols
 
 -- a production that ends no name, and one that ends a name with this role
 abbrev pub way : List Attributed → Production

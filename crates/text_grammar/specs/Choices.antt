@@ -7,12 +7,13 @@ use Rattle.text_grammar.specs.declared.symbol.Symbol.{Symbol}
 use Rattle.text_grammar.specs.declared.symbol.Symbol.TheVariants as S
 use Rattle.text_grammar.specs.declared.table.Alternative.{Alternative}
 use Rattle.text_grammar.specs.declared.table.Rule.{Rule}
-use Rattle.text_grammar.specs.Grammar.{followed, productions}
+use Rattle.text_grammar.specs.Attributes.{plain}
+use Rattle.text_grammar.specs.Grammar.{productions}
 use Rattle.text_grammar.specs.Tests.{passes}
 
 -- the production that an alternative is
 abbrev pub production : Alternative → List Symbol
-production a = S.Token a.first ∷ a.rest.now
+production a = S.Token a.first ∷ map plain a.rest.now
 
 -- the empty production
 abbrev pub nothing : List (List Symbol)
@@ -25,7 +26,12 @@ perhaps_nothing false = []
 
 -- the productions of a rule
 abbrev pub ways : Rule → List (List Symbol)
-ways r = followed (map production r.shared.now) r.then.now ++ (map production r.own.now ++ perhaps_nothing r.may_be_empty)
+ways r = map production r.alternatives.now ++ perhaps_nothing r.may_be_empty
+
+-- the first alternative that begins with this lexeme
+abbrev pub fitting : List Alternative → LexemeKind → Option Alternative
+fitting [] kind = None
+fitting (a ∷ rest) kind = if passes a.first kind then Some a else fitting rest kind
 
 -- what is to come after this lexeme by the first production that begins with it
 abbrev pub chosen : List (List Symbol) → LexemeKind → Option (List Symbol)

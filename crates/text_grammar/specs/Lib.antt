@@ -5,3 +5,4 @@ pub mod Choices
 pub mod Laws
 pub mod Attributes
 pub mod Occurrences
+pub mod Noting

@@ -3,6 +3,7 @@
 
 mod attributed;
 mod laws;
+mod noting;
 mod recognizer;
 mod role;
 mod symbol;
@@ -12,5 +13,6 @@ mod tests;
 mod words;
 
 pub use laws::spellings_are_grammatical;
+pub use noting::occurrences;
 pub use recognizer::grammar_fault;
 pub use role::{Occurrence, Role};

@@ -1,10 +1,11 @@
 //! Finds the first lexeme that ends every text, on a stack of the symbols that are to come.
 
 ghost use Rattle.std.specs.Prelude.{◌≡◌, ◌++◌, map, reverse, IfOk, OnOk, MatchOption};
-ghost use Rattle.std.specs.Option.{option_copied};
+ghost use Rattle.text_grammar.specs.Attributes.{plain};
 ghost use Rattle.text_grammar.specs.Choices as spec;
 ghost use Rattle.text_grammar.specs.Derivations.{start, IsGrammatical, IsGrammarFault};
 
+use crate::attributed::Attributed;
 use crate::symbol::{Nonterminal, Symbol};
 use crate::table::{Alternative, Rule, rule_of};
 use crate::words::passes;
@@ -64,36 +65,31 @@ fn take(coming: &mut List<Symbol>, kind: &LexemeKind) -> Result<bool, NoMem>
 fn expand(coming: &mut List<Symbol>, rule: Rule, kind: &LexemeKind) -> Result<bool, NoMem>
     ensures { IfOk result (λ taken. spec.Expands (spec.chosen (spec.ways rule) kind.now) (reverse coming.old) taken (reverse coming.new)) }
 {
-    if let Some(rest) = choose(rule.shared, kind) {
-        put(coming, rule.then)?;
-        put(coming, rest)?;
-        return Ok(true);
-    }
-    if let Some(rest) = choose(rule.own, kind) {
-        put(coming, rest)?;
+    if let Some(alternative) = fitting(rule.alternatives, kind) {
+        put(coming, alternative.rest)?;
         return Ok(true);
     }
     Ok(false)
 }
 
-/// What comes after this lexeme by the first of the alternatives that begins with it.
-fn choose(alternatives: &'static [Alternative], kind: &LexemeKind) -> Option<&'static [Symbol]>
-    ensures { option_copied result ≡ spec.chosen (map spec.production alternatives.now) kind.now }
+/// The first of the alternatives that begins with this lexeme.
+pub(crate) fn fitting(alternatives: &[Alternative], kind: &LexemeKind) -> Option<Alternative>
+    ensures { result ≡ spec.fitting alternatives.now kind.now }
 {
     for alternative in alternatives {
         if passes(alternative.first, kind) {
-            return Some(alternative.rest);
+            return Some(*alternative);
         }
     }
     None
 }
 
 /// Puts symbols before those that are to come.
-fn put(coming: &mut List<Symbol>, symbols: &[Symbol]) -> Result<(), NoMem>
-    ensures { OnOk result (reverse coming.new ≡ symbols.now ++ reverse coming.old) }
+fn put(coming: &mut List<Symbol>, symbols: &[Attributed]) -> Result<(), NoMem>
+    ensures { OnOk result (reverse coming.new ≡ map plain symbols.now ++ reverse coming.old) }
 {
     for symbol in symbols.iter().rev() {
-        coming.push(*symbol)?;
+        coming.push(symbol.plain())?;
     }
     Ok(())
 }

@@ -1,284 +1,330 @@
-//! The grammar as a table (docs/TEXT.md, "Grammar").
+//! The grammar as a table, with its attributes (docs/TEXT.md, "Grammar", "Faults").
 
-ghost use Rattle.std.specs.Prelude.{◌≡◌, ◌++◌, map, []};
+ghost use Rattle.std.specs.Prelude.{◌≡◌, ◌++◌, map, true, false, Some, None};
+ghost use Rattle.text_grammar.specs.Attributes as attributes;
 ghost use Rattle.text_grammar.specs.Choices as choices;
 ghost use Rattle.text_grammar.specs.Grammar as grammar;
+ghost use Rattle.text_grammar.specs.Noting as noting;
 
-use crate::symbol::{Nonterminal, Symbol, Terminal};
+use crate::attributed::{Attributed, Counting, Noting};
+use crate::role::Role;
+use crate::symbol::{Nonterminal, Terminal};
 
-/// One way to replace a part: a token and what comes after it.
+/// One way to replace a part: a token, how it is noted, and what comes after it. Where the name whose
+/// parts are counted is over, it has a role.
 #[derive(Clone, Copy)]
 pub(crate) struct Alternative {
+    pub(crate) closes: Option<Role>,
     pub(crate) first: Terminal,
-    pub(crate) rest: &'static [Symbol],
+    pub(crate) noting: Noting,
+    pub(crate) rest: &'static [Attributed],
 }
 
-/// The ways to replace a part: each of `shared` with `then` after it, each of `own`, and perhaps
-/// nothing.
+/// The ways to replace a part, and whether it may be nothing, where a name may be over too.
 #[derive(Clone, Copy)]
 pub(crate) struct Rule {
-    pub(crate) shared: &'static [Alternative],
-    pub(crate) then: &'static [Symbol],
-    pub(crate) own: &'static [Alternative],
+    pub(crate) alternatives: &'static [Alternative],
     pub(crate) may_be_empty: bool,
+    pub(crate) closes: Option<Role>,
 }
 
-/// A token by its name, or a part by its name in brackets.
-macro_rules! symbol {
-    ([$part:ident]) => {
-        Symbol::Part(Nonterminal::$part)
+/// A token's terminal: by its name, or in round brackets with a role, which has a `#` before it where
+/// the token is numbered.
+macro_rules! terminal {
+    (($token:ident # $role:ident)) => {
+        Terminal::$token
+    };
+    (($token:ident $role:ident)) => {
+        Terminal::$token
     };
     ($token:ident) => {
-        Symbol::Token(Terminal::$token)
+        Terminal::$token
     };
 }
 
-/// A token, and symbols after it.
+/// How such a token is noted.
+macro_rules! noting {
+    (($token:ident # $role:ident)) => {
+        Noting::Numbered(Role::$role)
+    };
+    (($token:ident $role:ident)) => {
+        Noting::Alone(Role::$role)
+    };
+    ($token:ident) => {
+        Noting::Nothing
+    };
+}
+
+/// A part in square brackets, with what it counts where this isn't the same, or a token.
+macro_rules! symbol {
+    ([$part:ident $counting:ident]) => {
+        Attributed::Part(Nonterminal::$part, Counting::$counting)
+    };
+    ([$part:ident]) => {
+        Attributed::Part(Nonterminal::$part, Counting::Same)
+    };
+    ($token:tt) => {
+        Attributed::Token(terminal!($token), noting!($token))
+    };
+}
+
+/// A token, and symbols after it; before them the role of the name that is over, and an arrow.
 macro_rules! alternative {
-    ($first:ident $($rest:tt)*) => {
+    ($role:ident => $first:tt $($rest:tt)*) => {
         Alternative {
-            first: Terminal::$first,
+            closes: Some(Role::$role),
+            first: terminal!($first),
+            noting: noting!($first),
+            rest: &[$(symbol!($rest)),*],
+        }
+    };
+    ($first:tt $($rest:tt)*) => {
+        Alternative {
+            closes: None,
+            first: terminal!($first),
+            noting: noting!($first),
             rest: &[$(symbol!($rest)),*],
         }
     };
 }
 
-/// A type that is no name.
-const OTHER_TYPES: &[Alternative] = &[
-    alternative!(Int),
-    alternative!(Bool),
-    alternative!(Unit),
-    alternative!(OpenBracket[TypeInBrackets]),
-];
+/// Alternatives in round brackets.
+macro_rules! alternatives {
+    ($(($($way:tt)*))*) => {
+        &[$(alternative!($($way)*)),*]
+    };
+}
 
-/// A type.
-const TYPES: &[Alternative] = &[
-    alternative!(Int),
-    alternative!(Bool),
-    alternative!(Unit),
-    alternative!(OpenBracket[TypeInBrackets]),
-    alternative!(Name),
-];
+/// Each type that is no name with these symbols after it, and other alternatives.
+macro_rules! other_types {
+    ({$($then:tt)*} $($more:tt)*) => {
+        alternatives!(
+            (Int $($then)*)
+            (Bool $($then)*)
+            (Unit $($then)*)
+            (OpenBracket [TypeInBrackets] $($then)*)
+            $($more)*
+        )
+    };
+}
 
-/// An atom that is no constructor.
-const PLAIN_ATOMS: &[Alternative] = &[
-    alternative!(Variable),
-    alternative!(Number Hash Int),
-    alternative!(True),
-    alternative!(False),
-    alternative!(UnitValue),
-    alternative!(OpenBracket[AtomInBrackets]),
-];
+/// Each type with these symbols after it, and other alternatives.
+macro_rules! types {
+    ({$($then:tt)*} $($more:tt)*) => {
+        other_types!({$($then)*} ((Name TypeName) $($then)*) $($more)*)
+    };
+}
 
-/// An atom.
-const ATOMS: &[Alternative] = &[
-    alternative!(Variable),
-    alternative!(Number Hash Int),
-    alternative!(True),
-    alternative!(False),
-    alternative!(UnitValue),
-    alternative!(OpenBracket[AtomInBrackets]),
-    alternative!(Name Dot Name),
-    alternative!(Exit Dot [ExitVariant]),
-];
+/// Each atom that is no constructor with these symbols after it, and other alternatives.
+macro_rules! plain_atoms {
+    ({$($then:tt)*} $($more:tt)*) => {
+        alternatives!(
+            ((Variable Variable) $($then)*)
+            ((Number Number) Hash Int $($then)*)
+            (True $($then)*)
+            (False $($then)*)
+            (UnitValue $($then)*)
+            (OpenBracket [AtomInBrackets] $($then)*)
+            $($more)*
+        )
+    };
+}
 
-/// A constructor's name.
-const CONSTRUCTORS: &[Alternative] = &[
-    alternative!(Name Dot Name),
-    alternative!(Exit Dot [ExitVariant]),
-];
+/// Each atom with these symbols after it, and other alternatives.
+macro_rules! atoms {
+    ({$($then:tt)*} $($more:tt)*) => {
+        plain_atoms!(
+            {$($then)*}
+            ((Name Constructor) Dot Name $($then)*)
+            ((Exit Constructor) Dot [ExitVariant] $($then)*)
+            $($more)*
+        )
+    };
+}
 
-/// A computation, with each primitive.
-const COMPUTATIONS: &[Alternative] = &[
-    alternative!(Ok[Atom]),
-    alternative!(Fail),
-    alternative!(Fn Dot Name [NameEnd] Fuel [Atoms]),
-    alternative!(Int Dot IntOperator [Atoms]),
-    alternative!(Bool Dot BoolOperator [Atoms]),
-    alternative!(Cast Dot [CastFrom]),
-    alternative!(Box Dot New [Atoms]),
-    alternative!(Mem Dot [MemoryPrimitive]),
-];
+/// Each computation, and other alternatives.
+macro_rules! computations {
+    ($($more:tt)*) => {
+        alternatives!(
+            (Ok [Atom])
+            (Fail)
+            (Fn Dot Name [NameEnd] Fuel [Atoms Begin])
+            (Int Dot IntOperator [Atoms Begin])
+            (Bool Dot BoolOperator [Atoms Begin])
+            (Cast Dot [CastFrom Begin])
+            (Box Dot New [Atoms Begin])
+            (Mem Dot [MemoryPrimitive Begin])
+            $($more)*
+        )
+    };
+}
 
 impl Rule {
     /// These ways alone.
-    fn of(own: &'static [Alternative]) -> Rule
-        ensures { choices.ways result ≡ map choices.production own.now }
+    fn of(alternatives: &'static [Alternative]) -> Rule
+        ensures plain { choices.ways result ≡ map choices.production alternatives.now ++ choices.perhaps_nothing false }
+        ensures attributed { noting.ways result ≡ map noting.production alternatives.now ++ noting.perhaps_nothing false None }
     {
         Rule {
-            shared: &[],
-            then: &[],
-            own,
+            alternatives,
             may_be_empty: false,
+            closes: None,
         }
     }
 
     /// These ways or nothing.
-    fn optional(own: &'static [Alternative]) -> Rule
-        ensures { choices.ways result ≡ map choices.production own.now ++ choices.nothing }
+    fn optional(alternatives: &'static [Alternative]) -> Rule
+        ensures plain { choices.ways result ≡ map choices.production alternatives.now ++ choices.perhaps_nothing true }
+        ensures attributed { noting.ways result ≡ map noting.production alternatives.now ++ noting.perhaps_nothing true None }
     {
         Rule {
-            shared: &[],
-            then: &[],
-            own,
+            alternatives,
             may_be_empty: true,
+            closes: None,
         }
     }
 
-    /// Each of the shared ways with `then` after it, and the others.
-    fn each(
-        shared: &'static [Alternative],
-        then: &'static [Symbol],
-        own: &'static [Alternative],
-    ) -> Rule
-        ensures { choices.ways result ≡ grammar.followed (map choices.production shared.now) then.now ++ map choices.production own.now }
+    /// These ways or nothing, where a name in this role is over.
+    fn ending(alternatives: &'static [Alternative], role: Role) -> Rule
+        ensures plain { choices.ways result ≡ map choices.production alternatives.now ++ choices.perhaps_nothing true }
+        ensures attributed { noting.ways result ≡ map noting.production alternatives.now ++ noting.perhaps_nothing true (Some role) }
     {
         Rule {
-            shared,
-            then,
-            own,
-            may_be_empty: false,
+            alternatives,
+            may_be_empty: true,
+            closes: Some(role),
         }
     }
 }
 
 /// The ways to replace a part.
 pub(crate) fn rule_of(part: Nonterminal) -> Rule
-    ensures { choices.ways result ≡ grammar.productions part }
+    ensures plain { choices.ways result ≡ grammar.productions part }
+    ensures attributed { noting.ways result ≡ attributes.attributed part }
 {
     match part {
-        Nonterminal::Text => Rule::of(&[
-            alternative!(Import AenPrelude Open AenPrelude [Types] [Definitions]),
-        ]),
-        Nonterminal::Types => Rule::optional(&[
-            alternative!(Inductive Name [TypeParameters] Where [Variants] [Types]),
-            alternative!(Structure Name [TypeParameters] Where [Fields] [Types]),
-        ]),
-        Nonterminal::TypeParameters => Rule::optional(&[
-            alternative!(OpenBracket Name Colon Type CloseBracket [TypeParameters]),
-        ]),
-        Nonterminal::Variants => Rule::optional(&[
-            alternative!(Bar Name Colon [VariantType] [Variants]),
-        ]),
-        Nonterminal::VariantType => Rule::each(
-            OTHER_TYPES,
-            &[symbol!(To), symbol!([VariantType])],
-            &[alternative!(Name[VariantEnd])],
+        Nonterminal::Text => Rule::of(alternatives!(
+            (Import AenPrelude Open AenPrelude [Types] [Definitions])
+        )),
+        Nonterminal::Types => Rule::optional(alternatives!(
+            (Inductive (Name TypeDeclaration) [TypeParameters] Where [Variants] [Types])
+            (Structure (Name TypeDeclaration) [TypeParameters] Where [Fields] [Types])
+        )),
+        Nonterminal::TypeParameters => Rule::optional(alternatives!(
+            (OpenBracket (Name TypeParameter) Colon Type CloseBracket [TypeParameters])
+        )),
+        Nonterminal::Variants => Rule::optional(alternatives!(
+            (Bar (Name Variant) Colon [VariantType] [Variants])
+        )),
+        Nonterminal::VariantType => Rule::of(other_types!(
+            {To [VariantType]}
+            (Name [VariantEnd Begin])
+        )),
+        Nonterminal::VariantEnd => Rule::ending(
+            alternatives!(
+                (TypeName => To [VariantType])
+                ((Name # VariantParameter) [Names More])
+            ),
+            Role::VariantEnd,
         ),
-        Nonterminal::VariantEnd => Rule::optional(&[
-            alternative!(To[VariantType]),
-            alternative!(Name[Names]),
-        ]),
-        Nonterminal::Names => Rule::optional(&[alternative!(Name[Names])]),
-        Nonterminal::Fields => Rule::optional(&[
-            alternative!(OpenBracket Name Colon [Type] CloseBracket [Fields]),
-        ]),
-        Nonterminal::Type => Rule::each(TYPES, &[], &[]),
-        Nonterminal::TypeInBrackets => Rule::each(
-            OTHER_TYPES,
-            &[symbol!(Times), symbol!([Type]), symbol!([Factors])],
-            &[
-                alternative!(Exit [Type] [Type] CloseBracket),
-                alternative!(Name[AfterTypeName]),
-            ],
+        Nonterminal::Names => Rule::ending(
+            alternatives!(((Name # VariantParameter) [Names More])),
+            Role::VariantEnd,
         ),
-        Nonterminal::AfterTypeName => Rule::each(
-            TYPES,
-            &[symbol!([TypeArguments])],
-            &[alternative!(Times[Type][Factors])],
+        Nonterminal::Fields => Rule::optional(alternatives!(
+            (OpenBracket (Name Field) Colon [Type] CloseBracket [Fields])
+        )),
+        Nonterminal::Type => Rule::of(types!({})),
+        Nonterminal::TypeInBrackets => Rule::of(other_types!(
+            {Times [Type] [Factors]}
+            (Exit [Type] [Type] CloseBracket)
+            (Name [AfterTypeName Begin])
+        )),
+        Nonterminal::AfterTypeName => Rule::of(types!(
+            {[TypeArguments More]}
+            (TypeName => Times [Type] [Factors])
+        )),
+        Nonterminal::TypeArguments => Rule::of(types!(
+            {[TypeArguments More]}
+            (TypeName => CloseBracket)
+        )),
+        Nonterminal::Factors => Rule::of(alternatives!(
+            (Times [Type] [Factors])
+            (CloseBracket)
+        )),
+        Nonterminal::Definitions => Rule::optional(alternatives!(
+            (Def (Fn Definition) Dot Name [NameEnd] [ImplicitParameters] OpenBracket Fuel Colon Nat CloseBracket [Parameters Begin] Colon Result [Type] Becomes Match Fuel With Bar Zero Gives OutOfFuel Bar Fuel Plus One Gives Do [Code] [Definitions])
+        )),
+        Nonterminal::NameEnd => Rule::optional(alternatives!((Dot [NamePart]))),
+        Nonterminal::NamePart => Rule::of(alternatives!(
+            ((Loop LoopNumber) [BackEnd])
+            ((Back BackNumber))
+        )),
+        Nonterminal::BackEnd => Rule::optional(alternatives!((Dot (Back BackNumber)))),
+        Nonterminal::ImplicitParameters => Rule::optional(alternatives!(
+            (OpenBrace (Name TypeParameter) Colon Type CloseBrace [ImplicitParameters])
+        )),
+        Nonterminal::Parameters => Rule::optional(alternatives!(
+            (OpenBracket (Variable # Parameter) Colon [Type] CloseBracket [Parameters More])
+        )),
+        Nonterminal::Code => Rule::of(computations!(
+            (Let (Variable Variable) [Bound])
+            (OpenBracket Match [Atom] With [Arms])
+        )),
+        Nonterminal::Bound => Rule::of(alternatives!(
+            (From [Computation] Semicolon [Code])
+            (Becomes [Atom] Semicolon [Code])
+        )),
+        Nonterminal::Arms => Rule::of(alternatives!(
+            (Bar [Pattern] Gives Do [Code] [Arms])
+            (CloseBracket)
+        )),
+        Nonterminal::Pattern => Rule::of(alternatives!(
+            (Name Dot Name [Variables Begin])
+            (Exit Dot [ExitVariant] [Variables Begin])
+            (True)
+            (False)
+            (OpenBracket (Variable Variable) Comma (Variable Variable) [PatternParts])
+        )),
+        Nonterminal::PatternParts => Rule::of(alternatives!(
+            (Comma (Variable Variable) [PatternParts])
+            (CloseBracket)
+        )),
+        Nonterminal::Variables => Rule::ending(
+            alternatives!(((Variable Variable) [Variables More])),
+            Role::Constructor,
         ),
-        Nonterminal::TypeArguments => Rule::each(
-            TYPES,
-            &[symbol!([TypeArguments])],
-            &[alternative!(CloseBracket)],
-        ),
-        Nonterminal::Factors => Rule::of(&[
-            alternative!(Times[Type][Factors]),
-            alternative!(CloseBracket),
-        ]),
-        Nonterminal::Definitions => Rule::optional(&[
-            alternative!(Def Fn Dot Name [NameEnd] [ImplicitParameters] OpenBracket Fuel Colon Nat CloseBracket [Parameters] Colon Result [Type] Becomes Match Fuel With Bar Zero Gives OutOfFuel Bar Fuel Plus One Gives Do [Code] [Definitions]),
-        ]),
-        Nonterminal::NameEnd => Rule::optional(&[alternative!(Dot[NamePart])]),
-        Nonterminal::NamePart => Rule::of(&[alternative!(Loop[BackEnd]), alternative!(Back)]),
-        Nonterminal::BackEnd => Rule::optional(&[alternative!(Dot Back)]),
-        Nonterminal::ImplicitParameters => Rule::optional(&[
-            alternative!(OpenBrace Name Colon Type CloseBrace [ImplicitParameters]),
-        ]),
-        Nonterminal::Parameters => Rule::optional(&[
-            alternative!(OpenBracket Variable Colon [Type] CloseBracket [Parameters]),
-        ]),
-        Nonterminal::Code => Rule::each(
-            COMPUTATIONS,
-            &[],
-            &[
-                alternative!(Let Variable [Bound]),
-                alternative!(OpenBracket Match [Atom] With [Arms]),
-            ],
-        ),
-        Nonterminal::Bound => Rule::of(&[
-            alternative!(From [Computation] Semicolon [Code]),
-            alternative!(Becomes [Atom] Semicolon [Code]),
-        ]),
-        Nonterminal::Arms => Rule::of(&[
-            alternative!(Bar [Pattern] Gives Do [Code] [Arms]),
-            alternative!(CloseBracket),
-        ]),
-        Nonterminal::Pattern => Rule::each(
-            CONSTRUCTORS,
-            &[symbol!([Variables])],
-            &[
-                alternative!(True),
-                alternative!(False),
-                alternative!(OpenBracket Variable Comma Variable [PatternParts]),
-            ],
-        ),
-        Nonterminal::PatternParts => Rule::of(&[
-            alternative!(Comma Variable [PatternParts]),
-            alternative!(CloseBracket),
-        ]),
-        Nonterminal::Variables => Rule::optional(&[alternative!(Variable[Variables])]),
-        Nonterminal::Computation => Rule::each(COMPUTATIONS, &[], &[]),
-        Nonterminal::CastFrom => Rule::of(&[
-            alternative!(Int Dot Int [Atoms]),
-            alternative!(Bool Dot Int [Atoms]),
-        ]),
-        Nonterminal::MemoryPrimitive => Rule::of(&[
-            alternative!(Replace[ReplaceEnd][Atoms]),
-            alternative!(Swap[SwapEnd][Atoms]),
-        ]),
-        Nonterminal::ReplaceEnd => Rule::optional(&[alternative!(Dot BackZero)]),
-        Nonterminal::SwapEnd => Rule::optional(&[alternative!(Dot[SwapRegion])]),
-        Nonterminal::SwapRegion => Rule::of(&[alternative!(BackZero), alternative!(BackOne)]),
-        Nonterminal::ExitVariant => Rule::of(&[alternative!(Brk), alternative!(Ret)]),
-        Nonterminal::Atom => Rule::each(ATOMS, &[], &[]),
-        Nonterminal::AtomInBrackets => Rule::each(
-            PLAIN_ATOMS,
-            &[symbol!(Comma), symbol!([Atom]), symbol!([TupleParts])],
-            &[
-                alternative!(Name Dot Name [AfterConstructor]),
-                alternative!(Exit Dot [ExitVariant] [AfterConstructor]),
-            ],
-        ),
-        Nonterminal::AfterConstructor => Rule::each(
-            ATOMS,
-            &[symbol!([Arguments])],
-            &[alternative!(Comma[Atom][TupleParts])],
-        ),
-        Nonterminal::TupleParts => Rule::of(&[
-            alternative!(Comma[Atom][TupleParts]),
-            alternative!(CloseBracket),
-        ]),
-        Nonterminal::Arguments => Rule::each(
-            ATOMS,
-            &[symbol!([Arguments])],
-            &[alternative!(CloseBracket)],
-        ),
-        Nonterminal::Atoms => Rule {
-            shared: ATOMS,
-            then: &[symbol!([Atoms])],
-            own: &[],
-            may_be_empty: true,
-        },
+        Nonterminal::Computation => Rule::of(computations!()),
+        Nonterminal::CastFrom => Rule::of(alternatives!(
+            (Int Dot Int [Atoms])
+            (Bool Dot Int [Atoms])
+        )),
+        Nonterminal::MemoryPrimitive => Rule::of(alternatives!(
+            (Replace [ReplaceEnd] [Atoms])
+            (Swap [SwapEnd] [Atoms])
+        )),
+        Nonterminal::ReplaceEnd => Rule::optional(alternatives!((Dot BackZero))),
+        Nonterminal::SwapEnd => Rule::optional(alternatives!((Dot [SwapRegion]))),
+        Nonterminal::SwapRegion => Rule::of(alternatives!((BackZero) (BackOne))),
+        Nonterminal::ExitVariant => Rule::of(alternatives!((Brk) (Ret))),
+        Nonterminal::Atom => Rule::of(atoms!({})),
+        Nonterminal::AtomInBrackets => Rule::of(plain_atoms!(
+            {Comma [Atom] [TupleParts]}
+            (Name Dot Name [AfterConstructor Begin])
+            (Exit Dot [ExitVariant] [AfterConstructor Begin])
+        )),
+        Nonterminal::AfterConstructor => Rule::of(atoms!(
+            {[Arguments More]}
+            (Constructor => Comma [Atom] [TupleParts])
+        )),
+        Nonterminal::TupleParts => Rule::of(alternatives!(
+            (Comma [Atom] [TupleParts])
+            (CloseBracket)
+        )),
+        Nonterminal::Arguments => Rule::of(atoms!(
+            {[Arguments More]}
+            (Constructor => CloseBracket)
+        )),
+        Nonterminal::Atoms => Rule::ending(atoms!({[Atoms More]}), Role::Call),
     }
 }
