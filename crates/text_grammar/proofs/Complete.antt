@@ -29,7 +29,7 @@ no_token : (t : Terminal) (rest : List Symbol) → Derives (S.Token t ∷ rest) 
 no_token t rest d = elim d [ ]
 
 -- productions
-head_of : (t : Terminal) (p : List Symbol) (ps : List (List Symbol)) → IsOneOf (S.Token t ∷ p) ps → IsOneOf t (heads ps)
+pub head_of : (t : Terminal) (p : List Symbol) (ps : List (List Symbol)) → IsOneOf (S.Token t ∷ p) ps → IsOneOf t (heads ps)
 head_of t p [] h = absurd h
 head_of t p ([] ∷ ps) (inl e) = absurd cc
 head_of t p ([] ∷ ps) (inr h) = head_of t p ps h
@@ -38,7 +38,7 @@ head_of t p ((S.Token u ∷ q) ∷ ps) (inr h) = inr (head_of t p ps h)
 head_of t p ((S.Part n ∷ q) ∷ ps) (inl e) = absurd cc
 head_of t p ((S.Part n ∷ q) ∷ ps) (inr h) = head_of t p ps h
 
-no_part : (n : Nonterminal) (p : List Symbol) (ps : List (List Symbol)) → begin_with_tokens ps ≡ true → IsOneOf (S.Part n ∷ p) ps → ⊥
+pub no_part : (n : Nonterminal) (p : List Symbol) (ps : List (List Symbol)) → begin_with_tokens ps ≡ true → IsOneOf (S.Part n ∷ p) ps → ⊥
 no_part n p [] h i = i
 no_part n p ([] ∷ ps) h (inl e) = cc
 no_part n p ([] ∷ ps) h (inr i) = no_part n p ps h i
@@ -46,7 +46,7 @@ no_part n p ((S.Token u ∷ q) ∷ ps) h (inl e) = cc
 no_part n p ((S.Token u ∷ q) ∷ ps) h (inr i) = no_part n p ps h i
 no_part n p ((S.Part m ∷ q) ∷ ps) h i = cc
 
-empty_complete : (ps : List (List Symbol)) → IsOneOf [] ps → has_empty ps ≡ true
+pub empty_complete : (ps : List (List Symbol)) → IsOneOf [] ps → has_empty ps ≡ true
 empty_complete [] h = absurd h
 empty_complete ([] ∷ ps) h = refl
 empty_complete ((s ∷ p) ∷ ps) (inl e) = absurd cc
@@ -97,7 +97,7 @@ right_by : (b : Bool) (t : Terminal) (hs fs : List Terminal) → b ≡ true → 
 right_by true t hs fs h i = of_right t hs fs i
 right_by false t hs fs h i = absurd cc
 
-derives_begins : (symbols : List Symbol) (l : Lexeme) (ls : Tokens) → Derives symbols (l ∷ ls) → Begins (firsts symbols []) l.kind
+pub derives_begins : (symbols : List Symbol) (l : Lexeme) (ls : Tokens) → Derives symbols (l ∷ ls) → Begins (firsts symbols []) l.kind
 derives_begins [] l ls d = elim d [ ]
 derives_begins (S.Token t ∷ rest) l ls (token h d) = record { with = t; one = inl refl; good = h }
 derives_begins (S.Part n ∷ rest) l ls (part [] one d) =
@@ -119,7 +119,7 @@ replaced_some o p rest other e = ap (λ (r : Option (List Symbol)). replaced r r
 replaced_none : (o : Option (List Symbol)) (b : Bool) (rest : List Symbol) (s t : Option (List Symbol)) → o ≡ None → b ≡ true → s ≡ t → replaced o rest (if b then s else None) ≡ t
 replaced_none o b rest s t e f g = (λ i. replaced (e i) rest (if f i then s else None)) ∙ g
 
-apart_by : (b : Bool) (hs fs : List Terminal) (t u : Terminal) → b ≡ true → (if b then each_apart hs fs else true) ≡ true → IsOneOf t hs → IsOneOf u fs → apart t u ≡ true
+pub apart_by : (b : Bool) (hs fs : List Terminal) (t u : Terminal) → b ≡ true → (if b then each_apart hs fs else true) ≡ true → IsOneOf t hs → IsOneOf u fs → apart t u ≡ true
 apart_by true hs fs t u e h i j = all_of (apart t) fs u (all_of (λ t. list_all (apart t) fs) hs t h i) j
 apart_by false hs fs t u e h i j = absurd cc
 
@@ -143,7 +143,7 @@ step_complete (S.Part n ∷ rest) l ls h (part (S.Token t ∷ p) one d) =
     }
 step_complete (S.Part n ∷ rest) l ls h (part (S.Part m ∷ p) one d) = absurd (no_part m p (productions n) (begun n) one)
 
-two : (a b : Bool) → a ≡ true → b ≡ true → a && b ≡ true
+pub two : (a b : Bool) → a ≡ true → b ≡ true → a && b ≡ true
 two true b e f = f
 two false b e f = absurd cc
 

@@ -15,3 +15,5 @@ pub mod MakesCode
 pub mod MakesTexts
 pub mod Erasing
 pub mod NotingSteps
+pub mod Noted
+pub mod NotedWhole

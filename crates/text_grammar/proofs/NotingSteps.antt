@@ -13,7 +13,7 @@ use Rattle.text_grammar.specs.declared.table.Alternative.{Alternative}
 use Rattle.text_grammar.specs.declared.table.Rule.{Rule}
 use Rattle.text_grammar.specs.Attributes.{Production, attributed}
 use Rattle.text_grammar.specs.Choices.{fitting}
-use Rattle.text_grammar.specs.Noting.{production, perhaps_nothing, ways, chosen, empty_way, Step, begun, replaced, before, left_out, step, ended, at_end, Takes, Ends}
+use Rattle.text_grammar.specs.Noting.{production, perhaps_nothing, ways, chosen, empty_way, Step, replaced, before, left_out, step, ended, at_end, Takes, Ends}
 use Rattle.text_grammar.specs.Occurrences.{coming, noted, closed}
 use Rattle.text_grammar.specs.Tests.{passes}
 use Rattle.text_grammar.proofs.Stepping.{popped}

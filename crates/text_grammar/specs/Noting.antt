@@ -1,7 +1,6 @@
 -- How the next lexeme chooses a production with attributes, and what is noted meanwhile.
 use Rattle.std.specs.Prelude.{◌≡◌, ℕ, suc, Bool, true, false, if◌then◌else◌, List, [], ◌∷◌, ◌++◌, map, Option, Some, None}
 use Rattle.std.specs.Option.{option_map}
-use Rattle.text_tokens.specs.declared.lexeme.Lexeme.{Lexeme}
 use Rattle.text_tokens.specs.declared.lexeme.LexemeKind.{LexemeKind}
 use Rattle.text_grammar.specs.declared.attributed.Attributed.{Attributed}
 use Rattle.text_grammar.specs.declared.attributed.Attributed.TheVariants as A

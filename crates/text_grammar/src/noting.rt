@@ -18,10 +18,7 @@ use text_tokens::{Lexeme, LexemeKind};
 
 /// The names, variables and numbers that occur in a text of the grammar; None exactly where the
 /// lexemes are no text of the grammar. The only error is want of memory.
-pub fn occurrences(
-    alloc: Global,
-    lexemes: &[Lexeme],
-) -> Result<Option<List<Occurrence>>, NoMem>
+pub fn occurrences(alloc: Global, lexemes: &[Lexeme]) -> Result<Option<List<Occurrence>>, NoMem>
     ensures { IfOk result (λ o. MatchOption o (IsGrammatical lexemes.now → ⊥) (λ os. occurrences.AreExactly lexemes.now os)) }
 {
     let found = occurring(alloc, lexemes)?;
@@ -33,10 +30,7 @@ fn occurring(alloc: Global, lexemes: &[Lexeme]) -> Result<Option<List<Occurrence
 {
     let mut found = List::new(alloc);
     let mut coming = List::new(alloc);
-    coming.push(Coming::Part(
-        Nonterminal::Text,
-        Count { start: 0, parts: 0 },
-    ))?;
+    coming.push(Coming::Part(Nonterminal::Text, Count { start: 0, parts: 0 }))?;
     for (place, lexeme) in lexemes.iter().enumerate() {
         let Ok(place) = u32::try_from(place) else {
             return Err(NoMem);
@@ -103,12 +97,7 @@ fn begin(
 }
 
 /// Notes a token at this place.
-fn note(
-    found: &mut List<Occurrence>,
-    place: u32,
-    noting: Noting,
-    count: u32,
-) -> Result<(), NoMem>
+fn note(found: &mut List<Occurrence>, place: u32, noting: Noting, count: u32) -> Result<(), NoMem>
     ensures { OnOk result (found.new ≡ found.old ++ occurrences.noted place noting count) }
 {
     match noting {

@@ -248,14 +248,11 @@ pub(crate) fn rule_of(part: Nonterminal) -> Rule
             {[TypeArguments More]}
             (TypeName => CloseBracket)
         )),
-        Nonterminal::Factors => Rule::of(alternatives!(
-            (Times [Type] [Factors])
-            (CloseBracket)
-        )),
+        Nonterminal::Factors => Rule::of(alternatives!((Times[Type][Factors])(CloseBracket))),
         Nonterminal::Definitions => Rule::optional(alternatives!(
             (Def (Fn Definition) Dot Name [NameEnd] [ImplicitParameters] OpenBracket Fuel Colon Nat CloseBracket [Parameters Begin] Colon Result [Type] Becomes Match Fuel With Bar Zero Gives OutOfFuel Bar Fuel Plus One Gives Do [Code] [Definitions])
         )),
-        Nonterminal::NameEnd => Rule::optional(alternatives!((Dot [NamePart]))),
+        Nonterminal::NameEnd => Rule::optional(alternatives!((Dot[NamePart]))),
         Nonterminal::NamePart => Rule::of(alternatives!(
             ((Loop LoopNumber) [BackEnd])
             ((Back BackNumber))
@@ -300,13 +297,12 @@ pub(crate) fn rule_of(part: Nonterminal) -> Rule
             (Bool Dot Int [Atoms])
         )),
         Nonterminal::MemoryPrimitive => Rule::of(alternatives!(
-            (Replace [ReplaceEnd] [Atoms])
-            (Swap [SwapEnd] [Atoms])
+            (Replace[ReplaceEnd][Atoms])(Swap[SwapEnd][Atoms])
         )),
         Nonterminal::ReplaceEnd => Rule::optional(alternatives!((Dot BackZero))),
-        Nonterminal::SwapEnd => Rule::optional(alternatives!((Dot [SwapRegion]))),
-        Nonterminal::SwapRegion => Rule::of(alternatives!((BackZero) (BackOne))),
-        Nonterminal::ExitVariant => Rule::of(alternatives!((Brk) (Ret))),
+        Nonterminal::SwapEnd => Rule::optional(alternatives!((Dot[SwapRegion]))),
+        Nonterminal::SwapRegion => Rule::of(alternatives!((BackZero)(BackOne))),
+        Nonterminal::ExitVariant => Rule::of(alternatives!((Brk)(Ret))),
         Nonterminal::Atom => Rule::of(atoms!({})),
         Nonterminal::AtomInBrackets => Rule::of(plain_atoms!(
             {Comma [Atom] [TupleParts]}
@@ -317,10 +313,7 @@ pub(crate) fn rule_of(part: Nonterminal) -> Rule
             {[Arguments More]}
             (Constructor => Comma [Atom] [TupleParts])
         )),
-        Nonterminal::TupleParts => Rule::of(alternatives!(
-            (Comma [Atom] [TupleParts])
-            (CloseBracket)
-        )),
+        Nonterminal::TupleParts => Rule::of(alternatives!((Comma[Atom][TupleParts])(CloseBracket))),
         Nonterminal::Arguments => Rule::of(atoms!(
             {[Arguments More]}
             (Constructor => CloseBracket)

@@ -1,5 +1,5 @@
 -- What is put there is what the rule's productions choose.
-use Rattle.std.proofs.Common.{sym, reverse}
+use Rattle.std.proofs.Common.{reverse}
 use Rattle.text_grammar.proofs.Rules.{expands_some, expands_none}
 use Rattle.text_grammar.proofs.recognizer.expand.Goals as goal
 
