@@ -35,3 +35,4 @@ pub mod ValueWords
 pub mod Lexemes
 pub mod Reading
 pub mod Matching
+pub mod Rules
