@@ -56,3 +56,4 @@ pub mod WholeTexts
 pub mod LexemesRead
 pub mod TextsRead
 pub mod Matched
+pub mod Leasts

@@ -35,3 +35,7 @@ pub mod ValueWords
 pub mod Lexemes
 pub mod Reading
 pub mod Matching
+pub mod RuleContext
+pub mod Rules
+pub mod Breaches
+pub mod Least
