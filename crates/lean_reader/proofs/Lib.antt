@@ -57,3 +57,4 @@ pub mod LexemesRead
 pub mod TextsRead
 pub mod Matched
 pub mod Declared
+pub mod Leasts

@@ -36,3 +36,6 @@ pub mod Lexemes
 pub mod Reading
 pub mod Matching
 pub mod Rules
+pub mod RuleContext
+pub mod Breaches
+pub mod Least

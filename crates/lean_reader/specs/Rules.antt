@@ -1,36 +1,20 @@
--- The rules beside the grammar, and where they are broken (TEXT.md, "Faults").
-use Rattle.std.specs.Prelude.{◌≡◌, ◌≤◌, ℕ, suc, ◌+◌, ◌∸◌, ◌==◌, ◌&&◌, ◌||◌, not, nat_lt, Bool, true, false, if◌then◌else◌, List, [], ◌∷◌, ◌++◌, length, drop, Option, Some, None, is_some, codes, bytes_eq, slice_get}
+-- The rules beside the grammar, by what each name and number is there for (TEXT.md, "Faults").
+use Rattle.std.specs.Prelude.{ℕ, suc, ◌+◌, ◌-◌, ◌==◌, ◌&&◌, ◌||◌, not, nat_lt, Bool, true, false, if◌then◌else◌, List, length, drop, Option, Some, None, is_some, codes, bytes_eq, slice_get}
 use Rattle.pure_ast.specs.declared.ctor.CtorId.{CtorId}
 use Rattle.pure_ast.specs.declared.comp.Primitive.{Primitive}
-use Rattle.text_meaning.specs.Lists.{Each}
 use Rattle.text_meaning.specs.Ranges.{arity}
 use Rattle.text_grammar.specs.declared.role.Occurrence.{Occurrence}
 use Rattle.text_grammar.specs.declared.role.Role.{Role}
 use Rattle.text_grammar.specs.declared.role.Role.TheVariants as R
-use Rattle.text_grammar.specs.Derivations.{IsOneOf}
-use Rattle.text_grammar.specs.Occurrences.{AreIn}
 use Rattle.lean_reader.specs.declared.outline.Outline.{Outline}
 use Rattle.lean_reader.specs.Calls.{DefinitionName, definition_name, first_numbered}
 use Rattle.lean_reader.specs.Outlines.{type_of, constructor_of, definition_of}
-use Rattle.lean_reader.specs.Outlining.{first_name, outline}
+use Rattle.lean_reader.specs.Outlining.{first_name}
 use Rattle.lean_reader.specs.Parser.{Tokens, tail}
 use Rattle.lean_reader.specs.Primitives.{primitive}
+use Rattle.lean_reader.specs.RuleContext.{Context}
 use Rattle.lean_reader.specs.Single.{starts_word, typed, first_digits}
 use Rattle.lean_reader.specs.Tests.{place_of}
-
--- what was declared before an occurrence: how many types and definitions; the type that was declared
--- last; the type parameters of the last declaration; the variants or fields of the last type; and all
--- type parameters
-pub record Context : Type 0 where
-  pub types : ℕ
-  pub definitions : ℕ
-  pub name : List ℕ
-  pub parameters : List (List ℕ)
-  pub members : List (List ℕ)
-  pub earlier : List (List ℕ)
-
-abbrev pub nothing_yet : Context
-nothing_yet = record { types = 0; definitions = 0; name = []; parameters = []; members = []; earlier = [] }
 
 abbrev pub is_in : List ℕ → List (List ℕ) → Bool
 is_in n ns = is_some (place_of ns n)
@@ -55,7 +39,7 @@ is_type h count n = is_before (type_of h n) count
 
 -- the place of the last lexeme of a name, of whose lexemes these come after it
 abbrev pub last_place : Tokens → Tokens → ℕ
-last_place ls rest = length ls ∸ suc (length rest)
+last_place ls rest = length ls - suc (length rest)
 
 -- a type's name is declared once, and is no type parameter before
 abbrev pub type_declaration : Outline → Context → List ℕ → ℕ → Option ℕ
@@ -150,54 +134,3 @@ broken_at h ls c R.Call ts name count place = call h ls ts name count place
 
 abbrev pub broken : Outline → Tokens → Context → Occurrence → Option ℕ
 broken h ls c o = broken_at h ls c o.role (drop o.place ls) (drop (o.place + 2) ls) o.count o.place
-
--- what an occurrence declares
-abbrev pub with_definition : Context → Option (DefinitionName × Tokens) → ℕ
-with_definition c None = c.definitions
-with_definition c (Some p) = suc c.definitions
-
-abbrev pub declared_by : Context → Role → Tokens → Context
-declared_by c R.TypeDeclaration ts =
-    record { types = suc c.types; definitions = c.definitions; name = first_name ts; parameters = []; members = []; earlier = c.earlier }
-declared_by c R.TypeParameter ts =
-    record { types = c.types; definitions = c.definitions; name = c.name; parameters = c.parameters ++ first_name ts ∷ []; members = c.members; earlier = c.earlier ++ first_name ts ∷ [] }
-declared_by c R.Variant ts =
-    record { types = c.types; definitions = c.definitions; name = c.name; parameters = c.parameters; members = c.members ++ first_name ts ∷ []; earlier = c.earlier }
-declared_by c R.Field ts =
-    record { types = c.types; definitions = c.definitions; name = c.name; parameters = c.parameters; members = c.members ++ first_name ts ∷ []; earlier = c.earlier }
-declared_by c R.Definition ts =
-    record { types = c.types; definitions = with_definition c (definition_name ts); name = c.name; parameters = []; members = c.members; earlier = c.earlier }
-declared_by c role ts = c
-
-abbrev pub after : Tokens → Context → Occurrence → Context
-after ls c o = declared_by c o.role (drop o.place ls)
-
--- the places where rules are broken
-abbrev pub and_others : Option ℕ → List ℕ → List ℕ
-and_others None places = places
-and_others (Some place) places = place ∷ places
-
-abbrev pub breaches : Outline → Tokens → Context → List Occurrence → List ℕ
-breaches h ls c [] = []
-breaches h ls c (o ∷ os) = and_others (broken h ls c o) (breaches h ls (after ls c o) os)
-
--- the places where a text with these occurrences breaks rules
-abbrev pub broken_places : Tokens → List Occurrence → List ℕ
-broken_places ls os = breaches (outline ls) ls nothing_yet os
-
--- the first of some places
-pub record IsFirst (places : List ℕ) (place : ℕ) : Type 0 where
-  pub one : IsOneOf place places
-  pub first : Each (λ other. place ≤ other) places
-
--- the first lexeme at which a rule is broken
-pub record IsRuleFault (ls : Tokens) (place : ℕ) : Type 0 where
-  pub occurrences : List Occurrence
-  pub are : AreIn ls occurrences
-  pub first : IsFirst (broken_places ls occurrences) place
-
--- no rule is broken
-pub record KeepsRules (ls : Tokens) : Type 0 where
-  pub occurrences : List Occurrence
-  pub are : AreIn ls occurrences
-  pub none : broken_places ls occurrences ≡ []

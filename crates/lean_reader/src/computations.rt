@@ -70,7 +70,7 @@ impl<'a> Reader<'a> {
 }
 
 /// How many parts a primitive has.
-fn arity(primitive: Primitive) -> usize
+pub(crate) fn arity(primitive: Primitive) -> usize
     ensures { result ≡ parts.arity primitive }
 {
     match primitive {
