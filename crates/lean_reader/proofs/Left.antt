@@ -126,6 +126,7 @@ module _ (h : Outline) (all : Tokens) where
     pub reads : (d : Defs) → Sound (environment h) d → Reads ls mid (tokens d item)
     pub good : (d : Defs) → Sound (environment h) d → Good d item
     pub left : Left place rest mid then
+    pub shorter : length mid ≤ length ls
 
 -- lexemes do not grow
 pub reads_shorter : (ls rest : Tokens) (ts : List Token) → Reads ls rest ts → length rest ≤ length ls
