@@ -60,3 +60,4 @@ pub mod Declared
 pub mod Leasts
 pub mod Left
 pub mod Passing
+pub mod Growing
