@@ -58,3 +58,5 @@ pub mod TextsRead
 pub mod Matched
 pub mod Declared
 pub mod Leasts
+pub mod Within
+pub mod BrokenWithin
