@@ -1,13 +1,13 @@
 -- Rules are broken at lexemes of the text.
-use Rattle.std.proofs.Common.{◌≡◌, ◌<◌, ◌≤◌, ◌+◌, ◌-◌, inl, inr, ℕ, zero, suc, Bool, true, false, if◌then◌else◌, List, [], ◌∷◌, length, drop, slice_get, Option, Some, None, subst, sym, arith}
-use Rattle.std.specs.Prelude.{is_some, codes}
+use Rattle.std.proofs.Common.{◌≡◌, ◌<◌, ◌≤◌, ◌+◌, ◌-◌, inl, inr, ℕ, zero, suc, Bool, true, false, if◌then◌else◌, List, [], ◌∷◌, length, drop, slice_get, Option, Some, None, MatchOption, subst, sym, arith}
+use Rattle.std.specs.Prelude.{◌==◌, codes}
 use Rattle.pure_ast.specs.declared.ctor.CtorId.{CtorId}
 use Rattle.pure_ast.specs.declared.comp.Primitive.{Primitive}
 use Rattle.text_grammar.specs.declared.role.Occurrence.{Occurrence}
 use Rattle.text_grammar.specs.declared.role.Role.{Role}
 use Rattle.text_grammar.specs.declared.role.Role.TheVariants as R
 use Rattle.text_grammar.specs.Derivations.{IsOneOf}
-use Rattle.text_grammar.specs.Occurrences.{AreIn}
+use Rattle.text_grammar.specs.Extents.{IsThere, extent, StandIn}
 use Rattle.text_meaning.specs.Lists.{Each}
 use Rattle.lean_reader.specs.declared.outline.Outline.{Outline}
 use Rattle.lean_reader.specs.Breaches.{IsFirst, and_others, breaches, broken_places}
@@ -20,7 +20,6 @@ use Rattle.lean_reader.specs.RuleContext.{Context, after, nothing_yet}
 use Rattle.lean_reader.specs.Rules as r
 use Rattle.lean_reader.specs.Single.{starts_word}
 use Rattle.lean_reader.specs.Tests.{place_of}
-use Rattle.lean_reader.proofs.Within.{IsThere, extent, all_there}
 
 abbrev Below : ℕ → Option ℕ → Type 0
 Below n None = Unit {0}
@@ -77,7 +76,7 @@ role_below h ls c R.Field ts name count place l = unless_below (length ls) _ pla
 role_below h ls c R.VariantEnd ts name count place l = unless_below (length ls) _ place (omega arith)
 role_below h ls c R.VariantParameter ts name count place l = same_below (length ls) _ (first_name ts) place (omega arith)
 role_below h ls c R.TypeName ts name count place l =
-    either (length ls) _ _ _ (unless_below (length ls) _ place (omega arith)) (parts_below (length ls) (type_of h (first_name ts)) count place (omega arith))
+    either (length ls) (r.is_in (first_name ts) c.parameters) (r.unless (count == 0) place) (r.has_parts (type_of h (first_name ts)) count place) (unless_below (length ls) (count == 0) place (omega arith)) (parts_below (length ls) (type_of h (first_name ts)) count place (omega arith))
 role_below h ls c R.Definition ts name count place l = definition_below h c ls (definition_name ts) (omega arith)
 role_below h ls c R.LoopNumber ts name count place l = unless_below (length ls) _ place (omega arith)
 role_below h ls c R.BackNumber ts name count place l = unless_below (length ls) _ place (omega arith)
@@ -85,10 +84,13 @@ role_below h ls c R.Parameter ts name count place l = parameter_below (length ls
 role_below h ls c R.Variable ts name count place l = unless_below (length ls) _ place (omega arith)
 role_below h ls c R.Number ts name count place l = unless_below (length ls) _ place (omega arith)
 role_below h ls c R.Constructor ts name count place l =
-    either (length ls) _ _ _ (unless_below (length ls) _ (place + 2) (omega arith))
+    either (length ls) (starts_word (codes "Exit") ts) (r.unless (count == 1) (place + 2))
+    (r.variant_of (type_of h (first_name ts)) (constructor_of h (first_name ts) (first_name name)) count place)
+    (unless_below (length ls) (count == 1) (place + 2) (omega arith))
     (variant_below (length ls) (type_of h (first_name ts)) (constructor_of h (first_name ts) (first_name name)) count place (omega arith))
 role_below h ls c R.Call ts name count place l =
-    either (length ls) _ _ _ (function_below (place_of h.functions (first_name name)) h ls ts count place (omega arith)) (primitive_below ls (primitive ts) count (omega arith))
+    either (length ls) (starts_word (codes "fn") ts) (r.by_function (place_of h.functions (first_name name)) h ls ts count place) (r.by_primitive ls (primitive ts) count)
+    (function_below (place_of h.functions (first_name name)) h ls ts count place (omega arith)) (primitive_below ls (primitive ts) count (omega arith))
 
 -- all places where rules are broken
 others_below : (n : ℕ) (o : Option ℕ) (ks : List ℕ) → Below n o → Each (λ k. k < n) ks → Each (λ k. k < n) (and_others o ks)
@@ -102,6 +104,7 @@ all_below h ls c (o ∷ os) f =
     (role_below h ls c o.role (drop o.place ls) (drop (o.place + 2) ls) o.count o.place f.0) (all_below h ls (after ls c o) os f.1)
 
 one_below : (n k : ℕ) (ks : List ℕ) → IsOneOf k ks → Each (λ k. k < n) ks → k < n
+one_below n k [] i f = absurd i
 one_below n k (x ∷ ks) (inl e) f = subst (λ y. y < n) (sym e) f.0
 one_below n k (x ∷ ks) (inr i) f = one_below n k ks i f.1
 
@@ -110,9 +113,11 @@ past [] k e = omega arith
 past (x ∷ xs) zero e = absurd cc
 past (x ∷ xs) (suc k) e = let i = past xs k e in omega arith
 
--- a lexeme stands where a rule is broken
-pub stands : (ls : Tokens) (os : List Occurrence) (k : ℕ) → AreIn ls os → IsFirst (broken_places ls os) k → slice_get ls k ≡ None → ⊥
-stands ls os k d f e =
-    let l : k < length ls = one_below (length ls) k (broken_places ls os) f.one (all_below (outline ls) ls nothing_yet os (all_there ls os d)) in
-    let m : length ls ≤ k = past ls k e in
+-- a lexeme stands where a rule is broken first
+pub stands : (ls : Tokens) (os : List Occurrence) (o : Option ℕ) (k : ℕ) → StandIn ls os →
+    MatchOption o (broken_places ls os ≡ []) (IsFirst (broken_places ls os)) → o ≡ Some k → None ≡ slice_get ls k → ⊥
+stands ls os o k d m q e =
+    let f = subst (λ x. MatchOption x (broken_places ls os ≡ []) (IsFirst (broken_places ls os))) q m in
+    let l : k < length ls = one_below (length ls) k (broken_places ls os) f.one (all_below (outline ls) ls nothing_yet os d) in
+    let n : length ls ≤ k = past ls k (sym e) in
     omega arith

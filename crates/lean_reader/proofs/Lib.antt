@@ -58,5 +58,4 @@ pub mod TextsRead
 pub mod Matched
 pub mod Declared
 pub mod Leasts
-pub mod Within
 pub mod BrokenWithin

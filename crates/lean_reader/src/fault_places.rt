@@ -3,6 +3,7 @@
 ghost use Rattle.std.specs.Prelude.{◌≡◌, ◌<◌, ◌^◌, [], length, IfOk, MatchOption};
 ghost use Rattle.text_tokens.specs.Scan.{cut_text};
 ghost use Rattle.text_grammar.specs.Derivations.{IsGrammatical};
+ghost use Rattle.text_grammar.specs.Extents.{StandIn};
 ghost use Rattle.text_grammar.specs.Occurrences.{AreIn};
 ghost use Rattle.lean_reader.specs.Breaches.{IsFirst, broken_places};
 ghost use Rattle.lean_reader.specs.Faults.{IsFaultPlace, IsAtBreachOr};
@@ -56,7 +57,8 @@ fn breach_place(
     occurring: &[Occurrence],
     end: Span,
 ) -> Result<Span, NoMem>
-    requires { AreIn tokens.now occurring.now }
+    requires are { AreIn tokens.now occurring.now }
+    requires within { StandIn tokens.now occurring.now }
     ensures { IfOk result (IsAtBreachOr tokens.now end) }
 {
     match first_of_text(alloc, tokens, occurring)? {

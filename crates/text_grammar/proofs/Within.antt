@@ -1,5 +1,5 @@
 -- What occurs in a text stands within it.
-use Rattle.std.proofs.Common.{◌≡◌, ◌<◌, ◌≤◌, ◌+◌, ◌⊎◌, inl, inr, ℕ, suc, Bool, true, false, List, [], ◌∷◌, ◌++◌, map, length, Option, Some, None, refl, sym, subst, ap, ◌∙◌, arith}
+use Rattle.std.proofs.Common.{◌≡◌, ◌<◌, ◌≤◌, ◌+◌, ◌⊎◌, inl, inr, ℕ, suc, Bool, true, false, List, [], ◌∷◌, ◌++◌, map, length, Option, Some, None, MatchOption, refl, sym, subst, ap, ◌∙◌, arith}
 use Rattle.std.specs.Prelude.{◌&&◌, nat_le}
 use Rattle.std.specs.List.{list_all}
 use Rattle.std.proofs.lemmas.Bool.{leb-true}
@@ -19,19 +19,18 @@ use Rattle.text_grammar.specs.declared.role.Role.TheVariants as R
 use Rattle.text_grammar.specs.declared.symbol.Nonterminal.{Nonterminal}
 use Rattle.text_grammar.specs.declared.symbol.Nonterminal.TheVariants as N
 use Rattle.text_grammar.specs.Attributes.{Production, attributed}
-use Rattle.text_grammar.specs.Derivations.{Tokens, IsOneOf}
-use Rattle.text_grammar.specs.Occurrences.{Occur, nothing, token, part, coming, counted, noted, closed, begins, AreIn}
+use Rattle.text_grammar.specs.Derivations.{Tokens, IsOneOf, IsGrammatical}
+use Rattle.text_grammar.specs.Extents.{extent, IsThere, StandIn}
+use Rattle.text_grammar.specs.Occurrences.{Occur, nothing, token, part, coming, counted, noted, closed, begins, AreIn, AreExactly}
 use Rattle.text_meaning.specs.Lists.{Each}
-use Rattle.lean_reader.proofs.Numbers.{and_left, and_right}
 
--- how many lexemes an occurrence has at least
-abbrev pub extent : Role → ℕ
-extent R.Constructor = 3
-extent R.Call = 3
-extent role = 1
+and_left : (a b : Bool) → (a && b) ≡ true → a ≡ true
+and_left true b h = refl
+and_left false b h = h
 
-abbrev pub IsThere : ℕ → Occurrence → Type 0
-IsThere total o = o.place + extent o.role ≤ total
+and_right : (a b : Bool) → (a && b) ≡ true → b ≡ true
+and_right true b h = h
+and_right false b h = absurd cc
 
 -- how many lexemes were read before a part since the name began whose parts it counts, and how many
 -- the part has at least
@@ -127,6 +126,7 @@ all_fit N.Atoms = refl
 
 -- one of them fits
 one_fits : (n : Nonterminal) (p : Production) (ps : List Production) → IsOneOf p ps → list_all (fits_production n) ps ≡ true → fits_production n p ≡ true
+one_fits n p [] i h = absurd i
 one_fits n p (q ∷ ps) (inl e) h = subst (λ x. fits_production n x ≡ true) (sym e) (and_left _ _ h)
 one_fits n p (q ∷ ps) (inr i) h = one_fits n p ps i (and_right (fits_production n q) _ h)
 
@@ -162,11 +162,12 @@ at_most m n h = leb-true m n h
 chosen_fits : (n : Nonterminal) (p : Production) → IsOneOf p (attributed n) → fits_production n p ≡ true
 chosen_fits n p i = one_fits n p (attributed n) i (all_fit n)
 
-enough : {k : ℕ} {xs : List Coming} {ls : Tokens} {os : List Occurrence} → Occur k xs ls os → least_coming xs ≤ length ls
-enough nothing = omega arith
-enough (token p d) = let i = enough d in omega arith
-enough {k} {C.Part n a ∷ rest} {ls} {_} (part p i d) =
-    let e = enough d in
+enough : (k : ℕ) (xs : List Coming) (ls : Tokens) (os : List Occurrence) → Occur k xs ls os → least_coming xs ≤ length ls
+enough k [] ls os d = omega arith
+enough k (C.Token t how count ∷ rest) (l ∷ ls) os (token {os = ps} p d) = let i = enough (suc k) rest ls ps d in omega arith
+enough k (C.Token t how count ∷ rest) [] os d = elim d [ ]
+enough k (C.Part n a ∷ rest) ls os (part {os = ps} p i d) =
+    let e = enough k (map (coming k a) p.symbols ++ rest) ls ps d in
     let w = least_whole k a p.symbols rest in
     let h = at_most (least n) (least_of p.symbols) (and_left _ _ (and_right (nat_le (extent_closed p.closes) (needs n)) _ (chosen_fits n p i))) in
     omega arith
@@ -179,15 +180,19 @@ symbols_fit k read name a (A.Token t how ∷ xs) rest h s f =
     let i = least_joined k a xs rest in
     let m : extent_noted how ≤ suc (least_coming (map (coming k a) xs ++ rest)) = omega arith in
     let u : k + read + suc (least_of xs) ≤ k + suc read + least_of xs = omega arith in
-    let v : k + suc read ≤ suc (k + read) = omega arith in
-    (m, fit_later (k + suc read) (suc (k + read)) (map (coming k a) xs ++ rest) v
-    (symbols_fit k (suc read) name a xs rest (and_right (nat_le (extent_noted how) (suc (least_of xs))) _ h) s (fit_later (k + read + suc (least_of xs)) (k + suc read + least_of xs) rest u f)))
+    let v : k + suc read ≤ suc (k + read) = omega arith in (
+      m,
+      fit_later (k + suc read) (suc (k + read)) (map (coming k a) xs ++ rest) v
+          (symbols_fit k (suc read) name a xs rest (and_right (nat_le (extent_noted how) (suc (least_of xs))) _ h) s (fit_later (k + read + suc (least_of xs)) (k + suc read + least_of xs) rest u f)),
+    )
 symbols_fit k read name a (A.Part n counting ∷ xs) rest h s f =
     let e = at_most (needs n) (before read name counting) (and_left _ _ h) in
     let u : k + read + (least n + least_of xs) ≤ k + (read + least n) + least_of xs = omega arith in
-    let v : k + (read + least n) ≤ k + read + least n = omega arith in
-    (begun k read name a n counting e s, fit_later (k + (read + least n)) (k + read + least n) (map (coming k a) xs ++ rest) v
-    (symbols_fit k (read + least n) name a xs rest (and_right (nat_le (needs n) (before read name counting)) _ h) s (fit_later (k + read + (least n + least_of xs)) (k + (read + least n) + least_of xs) rest u f)))
+    let v : k + (read + least n) ≤ k + read + least n = omega arith in (
+      begun k read name a n counting e s,
+      fit_later (k + (read + least n)) (k + read + least n) (map (coming k a) xs ++ rest) v
+          (symbols_fit k (read + least n) name a xs rest (and_right (nat_le (needs n) (before read name counting)) _ h) s (fit_later (k + read + (least n + least_of xs)) (k + (read + least n) + least_of xs) rest u f)),
+    )
   where
     begun : (k read name : ℕ) (a : Count) (n : Nonterminal) (counting : Counting) → needs n ≤ before read name counting → a.start + name ≤ k → (counted k a counting).start + needs n ≤ k + read
     begun k read name a n Same e s = omega arith
@@ -208,15 +213,16 @@ closed_there : (total need : ℕ) (a : Count) (closes : Option Role) → a.start
 closed_there total need a None l e = tt
 closed_there total need a (Some role) l e = let m : a.start + extent role ≤ total = omega arith in (m, tt)
 
-there : {k : ℕ} {xs : List Coming} {ls : Tokens} {os : List Occurrence} → Occur k xs ls os → Fit k xs → (total : ℕ) → total ≡ k + length ls → Each (IsThere total) os
-there nothing f total e = tt
-there {k} {C.Token t how count ∷ rest} {l ∷ ls} (token {os = os} p d) f total e =
-    let n = enough d in
+there : (k : ℕ) (xs : List Coming) (ls : Tokens) (os : List Occurrence) → Occur k xs ls os → Fit k xs → (total : ℕ) → total ≡ k + length ls → Each (IsThere total) os
+there k [] ls os nothing f total e = tt
+there k (C.Token t how count ∷ rest) [] os d f total e = elim d [ ]
+there k (C.Token t how count ∷ rest) (l ∷ ls) os (token {os = ps} p d) f total e =
+    let n = enough (suc k) rest ls ps d in
     let f0 = f.0 in
     let m : k + extent_noted how ≤ total = omega arith in
     let q : total ≡ suc k + length ls = omega arith in
-    each_joined total (noted k how count) os (noted_there total k how count m) (there d f.1 total q)
-there {k} {C.Part n a ∷ rest} {ls} (part {os = os} p i d) f total e =
+    each_joined total (noted k how count) ps (noted_there total k how count m) (there (suc k) rest ls ps d f.1 total q)
+there k (C.Part n a ∷ rest) ls os (part {os = ps} p i d) f total e =
     let h = chosen_fits n p i in
     let c = at_most (extent_closed p.closes) (needs n) (and_left _ _ h) in
     let r = and_right (nat_le (extent_closed p.closes) (needs n)) _ h in
@@ -225,9 +231,14 @@ there {k} {C.Part n a ∷ rest} {ls} (part {os = os} p i d) f total e =
     let m : a.start + needs n ≤ total = omega arith in
     let u : k + least n ≤ k + 0 + least_of p.symbols = omega arith in
     let v : k + 0 ≤ k = omega arith in
-    each_joined total (closed a p.closes) os (closed_there total (needs n) a p.closes m c)
-    (there d (fit_later (k + 0) k (map (coming k a) p.symbols ++ rest) v
-      (symbols_fit k 0 (needs n) a p.symbols rest (and_right (nat_le (least n) (least_of p.symbols)) _ r) f0 (fit_later (k + least n) (k + 0 + least_of p.symbols) rest u f.1))) total e)
+    let now = map (coming k a) p.symbols ++ rest in
+    let g = symbols_fit k 0 (needs n) a p.symbols rest (and_right (nat_le (least n) (least_of p.symbols)) _ r) f0 (fit_later (k + least n) (k + 0 + least_of p.symbols) rest u f.1) in
+    each_joined total (closed a p.closes) ps (closed_there total (needs n) a p.closes m c) (there k now ls ps d (fit_later (k + 0) k now v g) total e)
 
-pub all_there : (ls : Tokens) (os : List Occurrence) → AreIn ls os → Each (IsThere (length ls)) os
-all_there ls os d = let e : length ls ≡ 0 + length ls = omega arith in let s : 0 + 0 ≤ 0 = omega arith in there d (s, tt) (length ls) e
+all_there : (ls : Tokens) (os : List Occurrence) → AreIn ls os → StandIn ls os
+all_there ls os d = let e : length ls ≡ 0 + length ls = omega arith in let s : 0 + 0 ≤ 0 = omega arith in there 0 begins ls os d (s, tt) (length ls) e
+
+-- what exactly occurs stands in the text
+pub stand : (ls : Tokens) (o : Option (List Occurrence)) → MatchOption o (IsGrammatical ls → ⊥) (λ os. AreExactly ls os) → MatchOption o (Unit {0}) (λ os. StandIn ls os)
+stand ls None f = tt
+stand ls (Some os) f = all_there ls os ((f os).1 refl)
