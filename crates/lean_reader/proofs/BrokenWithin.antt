@@ -1,5 +1,5 @@
 -- Rules are broken at lexemes of the text.
-use Rattle.std.proofs.Common.{◌≡◌, ◌<◌, ◌≤◌, ◌+◌, ◌-◌, inl, inr, ℕ, zero, suc, Bool, true, false, if◌then◌else◌, List, [], ◌∷◌, length, drop, slice_get, Option, Some, None, MatchOption, subst, sym, arith}
+use Rattle.std.proofs.Common.{◌≡◌, ◌<◌, ◌≤◌, ◌+◌, inl, inr, ℕ, zero, suc, Bool, true, false, if◌then◌else◌, List, [], ◌∷◌, length, drop, slice_get, Option, Some, None, MatchOption, subst, sym, arith}
 use Rattle.std.specs.Prelude.{◌==◌, codes}
 use Rattle.pure_ast.specs.declared.ctor.CtorId.{CtorId}
 use Rattle.pure_ast.specs.declared.comp.Primitive.{Primitive}
@@ -12,7 +12,7 @@ use Rattle.text_meaning.specs.Lists.{Each}
 use Rattle.lean_reader.specs.declared.outline.Outline.{Outline}
 use Rattle.lean_reader.specs.Breaches.{IsFirst, and_others, breaches, broken_places}
 use Rattle.lean_reader.specs.Calls.{DefinitionName, definition_name, first_numbered}
-use Rattle.lean_reader.specs.Outlines.{type_of, constructor_of, definition_of}
+use Rattle.lean_reader.specs.Outlines.{type_of, constructor_of}
 use Rattle.lean_reader.specs.Outlining.{first_name, outline}
 use Rattle.lean_reader.specs.Parser.{Tokens}
 use Rattle.lean_reader.specs.Primitives.{primitive}

@@ -1,5 +1,5 @@
 -- The least place of a list, and the lexemes from a place on.
-use Rattle.std.proofs.Common.{◌≡◌, ◌<◌, ◌≤◌, ◌+◌, ◌⊎◌, inl, inr, ℕ, suc, zero, List, [], ◌∷◌, length, drop, take, take_all, get_or, min, ◌-◌, Option, Some, None, refl, sym, subst, ap, ◌∙◌, arith, MatchOption}
+use Rattle.std.proofs.Common.{◌≡◌, ◌<◌, ◌≤◌, ◌+◌, ◌⊎◌, inl, inr, ℕ, suc, List, [], ◌∷◌, length, drop, take, take_all, get_or, min, ◌-◌, Option, Some, None, refl, sym, subst, ap, ◌∙◌, arith, MatchOption}
 use Rattle.std.proofs.lemmas.List.{drop_min}
 use Rattle.std.proofs.lemmas.Bool.{cases_lt}
 use Rattle.text_tokens.specs.declared.lexeme.Lexeme.{Lexeme}
@@ -7,7 +7,6 @@ use Rattle.text_grammar.specs.declared.role.Occurrence.{Occurrence}
 use Rattle.text_grammar.specs.declared.role.Role.{Role}
 use Rattle.text_grammar.specs.declared.role.Role.TheVariants as R
 use Rattle.text_grammar.specs.Derivations.{IsOneOf}
-use Rattle.text_meaning.specs.Lists.{Each}
 use Rattle.lean_reader.specs.declared.outline.Outline.{Outline}
 use Rattle.lean_reader.specs.Breaches.{IsFirst, and_others, breaches}
 use Rattle.lean_reader.specs.Calls.{DefinitionName, definition_name}
