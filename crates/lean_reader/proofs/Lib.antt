@@ -61,3 +61,4 @@ pub mod Leasts
 pub mod Left
 pub mod Passing
 pub mod Growing
+pub mod BrokenWithin
