@@ -62,3 +62,4 @@ pub mod Left
 pub mod Passing
 pub mod Growing
 pub mod BrokenWithin
+pub mod KeptRules

@@ -1,12 +1,12 @@
 //! The place of a text's first fault.
 
-ghost use Rattle.std.specs.Prelude.{◌≡◌, ◌<◌, ◌^◌, [], length, IfOk, MatchOption};
+ghost use Rattle.std.specs.Prelude.{◌≡◌, ◌<◌, ◌^◌, [], length, None, IfOk, MatchOption};
 ghost use Rattle.text_tokens.specs.Scan.{cut_text};
 ghost use Rattle.text_grammar.specs.Derivations.{IsGrammatical};
 ghost use Rattle.text_grammar.specs.Extents.{StandIn};
 ghost use Rattle.text_grammar.specs.Occurrences.{AreIn};
-ghost use Rattle.lean_reader.specs.Breaches.{IsFirst, broken_places};
-ghost use Rattle.lean_reader.specs.Faults.{IsFaultPlace, IsAtBreachOr};
+ghost use Rattle.lean_reader.specs.Breaches.{IsFirst, KeepsRules, broken_places};
+ghost use Rattle.lean_reader.specs.Faults.{IsFaultPlace, IsAtBreach};
 
 use crate::breaches::first_breach;
 use crate::outlining::outline;
@@ -21,6 +21,7 @@ use text_tokens::{Lexeme, Lexemes};
 pub(crate) fn fault_place(alloc: Global, text: &str, lexemes: &Lexemes) -> Result<Span, NoMem>
     requires short { length text.now < 2 ^ 32 }
     requires cut { lexemes.now ≡ cut_text text.now }
+    requires broken { lexemes.now.fault ≡ None → KeepsRules lexemes.now.list → ⊥ }
     ensures { IfOk result (IsFaultPlace text.now) }
 {
     let tokens = lexemes.list.as_slice();
@@ -39,10 +40,11 @@ pub(crate) fn fault_place(alloc: Global, text: &str, lexemes: &Lexemes) -> Resul
 }
 
 /// The place of the first lexeme of a text of the grammar at which a rule beside the grammar is
-/// broken, and this end where none is. The only error is want of memory.
+/// broken; the end stands for what can't come. The only error is want of memory.
 fn rule_place(alloc: Global, tokens: &[Lexeme], end: Span) -> Result<Span, NoMem>
-    requires { IsGrammatical tokens.now }
-    ensures { IfOk result (IsAtBreachOr tokens.now end) }
+    requires grammatical { IsGrammatical tokens.now }
+    requires broken { KeepsRules tokens.now → ⊥ }
+    ensures { IfOk result (IsAtBreach tokens.now) }
 {
     match occurrences(alloc, tokens)? {
         None => Ok(end),
@@ -59,7 +61,8 @@ fn breach_place(
 ) -> Result<Span, NoMem>
     requires are { AreIn tokens.now occurring.now }
     requires within { StandIn tokens.now occurring.now }
-    ensures { IfOk result (IsAtBreachOr tokens.now end) }
+    requires broken { KeepsRules tokens.now → ⊥ }
+    ensures { IfOk result (IsAtBreach tokens.now) }
 {
     match first_of_text(alloc, tokens, occurring)? {
         None => Ok(end),

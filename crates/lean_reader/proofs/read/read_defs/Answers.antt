@@ -3,6 +3,7 @@ use Rattle.std.proofs.Common.{◌∙◌, sym, ap, refl, subst}
 use Rattle.std.specs.Prelude.{Err}
 use Rattle.lean_reader.specs.Lexemes.{AreOnly, AreNone, IsReadOf}
 use Rattle.lean_reader.specs.WordReading.{few_lexemes}
+use Rattle.lean_reader.proofs.KeptRules.{breaks_one}
 use Rattle.lean_reader.proofs.Proper.{unread}
 use Rattle.lean_reader.proofs.TextsRead.{is_read, is_nested, is_unread, no_fault, some_fault}
 use Rattle.lean_reader.proofs.read.read_defs.Goals as goal
@@ -35,3 +36,10 @@ returns-in-Err-Syntax c =
     let lexed = c.in_ok-lexemes.ensures.exact (no_fault c.in_ok-lexemes.lexemes.fault (sym c.is_some.ensures ∙ c.if-is_some.false)) in
     let none = subst AreNone c.as_slice.ensures (subst (λ f. IsReadOf c.as_slice.result.now (Err f)) c.in-Err-Syntax.field-0-is c.in-Err-Syntax.ensures) in
     (is_unread ls c.args.text.now lexed none, c.in_ok-fault_place-in-Err-Syntax.ensures)
+
+pub fault_place-requires-in-Err-Syntax-clause-broken : goal.fault_place-requires-in-Err-Syntax-clause-broken
+fault_place-requires-in-Err-Syntax-clause-broken c =
+    let ls = c.in_ok-lexemes.lexemes.list in
+    let lexed = c.in_ok-lexemes.ensures.exact (no_fault c.in_ok-lexemes.lexemes.fault (sym c.is_some.ensures ∙ c.if-is_some.false)) in
+    let none = subst AreNone c.as_slice.ensures (subst (λ f. IsReadOf c.as_slice.result.now (Err f)) c.in-Err-Syntax.field-0-is c.in-Err-Syntax.ensures) in
+    λ whole kept. breaks_one c.args.text.now ls lexed none kept
