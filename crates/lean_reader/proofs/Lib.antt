@@ -58,3 +58,7 @@ pub mod TextsRead
 pub mod Matched
 pub mod Declared
 pub mod Leasts
+pub mod Distinct
+pub mod Firsts
+pub mod Sounding
+pub mod OutlineOrder
