@@ -62,3 +62,8 @@ pub mod Distinct
 pub mod Firsts
 pub mod Sounding
 pub mod OutlineOrder
+pub mod DefinitionsPlaced
+pub mod NamesInTexts
+pub mod NamedTokens
+pub mod DeclaredFit
+pub mod Assembling
