@@ -9,17 +9,17 @@ use Rattle.text_meaning.specs.Lexing.{Lexed}
 use Rattle.text_meaning.specs.Lists.{Each}
 use Rattle.text_meaning.specs.Names.{IsName}
 use Rattle.text_meaning.specs.Spelled as spelled
-use Rattle.text_meaning.specs.Tokens.{Token, word}
+use Rattle.text_meaning.specs.Tokens.{word}
 use Rattle.text_meaning.specs.WellFormed.{AreInOrder, IsWellFormed}
 use Rattle.text_tokens.specs.Stands.{AllStand, AreLexemes}
 use Rattle.lean_reader.specs.declared.outline.Outline.{Outline}
 use Rattle.lean_reader.specs.Definitions.{kind_of}
 use Rattle.lean_reader.specs.Fitting as f
 use Rattle.lean_reader.specs.Lexemes.{AreDefs}
-use Rattle.lean_reader.specs.Outlines.{outline_of, environment, type_head, definition_head}
+use Rattle.lean_reader.specs.Outlines.{outline_of, environment, type_head}
 use Rattle.lean_reader.specs.Outlining as o
 use Rattle.lean_reader.specs.Parser.{Tokens}
-use Rattle.lean_reader.proofs.Declared.{Sound, IsRuled, AreDefined, text_tokens}
+use Rattle.lean_reader.proofs.Declared.{Sound, IsRuled, AreDefined}
 use Rattle.lean_reader.proofs.DeclaredFit.{shapes, types_differ, declarations, definitions, codes_of, kinds_differ}
 use Rattle.lean_reader.proofs.DefinitionsPlaced.{IsPlacedDefinition, kind_placed, definitions_placed}
 use Rattle.lean_reader.proofs.Distinct.{each_front, each_back, each_so}

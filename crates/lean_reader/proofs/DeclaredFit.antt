@@ -15,17 +15,18 @@ use Rattle.lean_reader.specs.declared.outline.Outline.{Outline}
 use Rattle.lean_reader.specs.declared.outline.TypeHead.{TypeHead}
 use Rattle.lean_reader.specs.Outlines.{environment, outline_of, type_head, definition_head, definition_of}
 use Rattle.lean_reader.specs.Rules.{is_type, is_first}
-use Rattle.lean_reader.proofs.Declared.{Sound, HasShape, AreFreshParameters, members_of, IsDeclared, AreDeclared, IsDefined, AreDefined}
+use Rattle.lean_reader.proofs.Declared.{Sound, HasShape, AreFreshParameters, members_of, IsDeclared, AreDeclared, AreDefined}
 use Rattle.lean_reader.proofs.Distinct.{each_join, each_back, each_front, each_so, each_with, each_swap, differ_last, not_in, fresh_differ, parameters_fresh, parameters_no_types}
 use Rattle.lean_reader.proofs.Firsts.{no_type, first_kind}
 use Rattle.lean_reader.proofs.NamedTokens.{IsNamedType, IsNamedDefinition}
 use Rattle.lean_reader.proofs.Proper.{HasCode}
 use Rattle.lean_reader.proofs.Testing.{each_mapped, mapped_each}
+use Rattle.lean_reader.proofs.TypesOutlined.{IsShaped}
 
 abbrev name_of : PType → List ℕ
 name_of t = t.name
 
--- no type has this name
+-- another name
 abbrev IsOther : List ℕ → List ℕ → Type 0
 IsOther n m = n ≡ m → ⊥
 
@@ -45,10 +46,10 @@ later_apart h [] count earlier g = tt
 later_apart h (t ∷ ts) count earlier g = (
   not_in t.name earlier g.0.apart,
   each_so (λ (x : PType). Each (λ p. p ≡ x.name → ⊥) (earlier ++ t.params)) (λ (x : PType). Each (λ p. p ≡ x.name → ⊥) earlier)
-  (λ x r. each_front (λ p. p ≡ x.name → ⊥) earlier t.params r) ts (later_apart h ts (suc count) (earlier ++ t.params) g.1),
+      (λ x r. each_front (λ p. p ≡ x.name → ⊥) earlier t.params r) ts (later_apart h ts (suc count) (earlier ++ t.params) g.1),
 )
 
-pub shapes : (h : Outline) (ts : List PType) (count : ℕ) (earlier : List (List ℕ)) → AreDeclared h count earlier ts → Each (λ (t : PType). HasShape t.is_struct t.variants) ts
+pub shapes : (h : Outline) (ts : List PType) (count : ℕ) (earlier : List (List ℕ)) → AreDeclared h count earlier ts → Each IsShaped ts
 shapes h [] count earlier g = tt
 shapes h (t ∷ ts) count earlier g = (g.0.shape, shapes h ts (suc count) (earlier ++ t.params) g.1)
 
@@ -77,11 +78,11 @@ module _ (d : Defs) (h : Outline) (outlined : h ≡ outline_of d) where
       let split : d.types ≡ (before ++ t ∷ []) ++ ts = e ∙ sym (append_assoc before (t ∷ []) ts) in
       let names : type_names d ≡ map name_of (before ++ t ∷ []) ++ map name_of ts = ap (map name_of) split ∙ map-append name_of (before ++ t ∷ []) ts in
       let first : Each (λ n. Each (IsOther n) (map name_of (before ++ t ∷ []))) t.params =
-        each_so (λ n. is_type h (suc count) n ≡ false) (λ n. Each (IsOther n) (map name_of (before ++ t ∷ [])))
-        (λ n k. others_before (before ++ t ∷ []) ts (suc count) n split (one_longer before t count c) k) t.params (parameters_no_types h (suc count) [] t.params g.params) in
+      each_so (λ n. is_type h (suc count) n ≡ false) (λ n. Each (IsOther n) (map name_of (before ++ t ∷ [])))
+      (λ n k. others_before (before ++ t ∷ []) ts (suc count) n split (one_longer before t count c) k) t.params (parameters_no_types h (suc count) [] t.params g.params) in
       let after : Each (λ (x : PType). Each (λ p. p ≡ x.name → ⊥) t.params) ts =
-        each_so (λ (x : PType). Each (λ p. p ≡ x.name → ⊥) (earlier ++ t.params)) (λ (x : PType). Each (λ p. p ≡ x.name → ⊥) t.params)
-        (λ x r. each_back (λ p. p ≡ x.name → ⊥) earlier t.params r) ts (later_apart h ts (suc count) (earlier ++ t.params) later) in
+      each_so (λ (x : PType). Each (λ p. p ≡ x.name → ⊥) (earlier ++ t.params)) (λ (x : PType). Each (λ p. p ≡ x.name → ⊥) t.params)
+      (λ x r. each_back (λ p. p ≡ x.name → ⊥) earlier t.params r) ts (later_apart h ts (suc count) (earlier ++ t.params) later) in
       let second = each_swap (λ (x : PType) (p : List ℕ). p ≡ x.name → ⊥) ts t.params after in
       each_with (λ n. Each (IsOther n) (map name_of (before ++ t ∷ []))) (λ n. Each (λ (x : PType). n ≡ x.name → ⊥) ts) (λ n. Each (IsOther n) (type_names d))
       (λ n p q. subst (Each (IsOther n)) (sym names) (each_join (IsOther n) (map name_of (before ++ t ∷ [])) (map name_of ts) p (each_mapped (IsOther n) name_of ts q))) t.params first second
@@ -107,7 +108,7 @@ module _ (d : Defs) (h : Outline) (outlined : h ≡ outline_of d) where
     parameters_fit ns g n = (
       (n, fresh_differ [] ns tt (parameters_fresh h (length d.types) [] ns g)),
       each_so (λ n. is_type h (length d.types) n ≡ false) (λ n. Each (IsOther n) (type_names d))
-      (λ n k. others_before d.types [] (length d.types) n (sym (append-nil d.types)) refl k) ns (parameters_no_types h (length d.types) [] ns g),
+          (λ n k. others_before d.types [] (length d.types) n (sym (append-nil d.types)) refl k) ns (parameters_no_types h (length d.types) [] ns g),
     )
 
     pub definitions : (xs : List Def) (count : ℕ) → AreDefined h (length d.types) count xs → Each (IsNamedDefinition d) xs → Each (IsDefinition d) xs

@@ -1,6 +1,6 @@
 -- The outline of definitions.
 use Rattle.std.proofs.Common.{◌≡◌, refl, ap, sym, ◌∙◌, ℕ, zero, suc, ◌<◌, ◌≤◌, ◌^◌, Bool, true, false, List, [], ◌∷◌, ◌++◌, length, map, take, Option, Some, None, append_assoc, append-nil, ◌⊎◌, inl, inr, arith}
-use Rattle.std.specs.Prelude.{codes, if◌then◌else◌, is_some, slice_get, bytes_eq}
+use Rattle.std.specs.Prelude.{codes, if◌then◌else◌, slice_get, bytes_eq}
 use Rattle.std.specs.List.{flat_map}
 use Rattle.std.specs.Option.{option_map}
 use Rattle.pure_ast.specs.declared.def.Def.{Def}

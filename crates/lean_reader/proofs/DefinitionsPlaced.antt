@@ -1,5 +1,5 @@
 -- The outline of definitions whose functions have their places among those of the whole outline.
-use Rattle.std.proofs.Common.{◌≡◌, refl, ap, sym, subst, ◌∙◌, ℕ, ◌≤◌, ◌^◌, List, [], ◌∷◌, ◌++◌, length, map, Option, Some, None, append_assoc, append-nil}
+use Rattle.std.proofs.Common.{◌≡◌, refl, ap, sym, subst, ◌∙◌, ℕ, ◌≤◌, ◌^◌, List, [], ◌∷◌, length, map, Option, Some, None, append_assoc, append-nil}
 use Rattle.std.specs.List.{flat_map}
 use Rattle.pure_ast.specs.declared.def.Def.{Def}
 use Rattle.pure_ast.specs.declared.def.DefKind.{DefKind}

@@ -1,6 +1,6 @@
 -- What is not found among the first items of a list is none of them.
 use Rattle.std.proofs.Common.{◌≡◌, refl, ap, sym, subst, ◌∙◌, ℕ, suc, ◌≤◌, Bool, true, false, List, [], ◌∷◌, ◌++◌, length, Option, Some, None, arith, ltb-false}
-use Rattle.std.specs.Prelude.{if◌then◌else◌, not, nat_lt, bytes_eq}
+use Rattle.std.specs.Prelude.{if◌then◌else◌, nat_lt, bytes_eq}
 use Rattle.std.specs.Option.{option_map, option_and_then}
 use Rattle.pure_ast.specs.declared.def.DefKind.{DefKind}
 use Rattle.text_meaning.specs.Lists.{Each}

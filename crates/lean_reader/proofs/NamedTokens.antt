@@ -1,6 +1,6 @@
 -- Where the names in the tokens of definitions are names, so are those that the definitions have.
-use Rattle.std.proofs.Common.{◌≡◌, ap, sym, subst, ◌∙◌, ℕ, suc, ◌<◌, ◌≤◌, Bool, true, false, List, [], ◌∷◌, ◌++◌, length, map, Some, ◌⊎◌, inl, inr, arith}
-use Rattle.std.specs.Prelude.{codes, slice_get}
+use Rattle.std.proofs.Common.{◌≡◌, ap, subst, ℕ, suc, ◌<◌, ◌≤◌, Bool, true, false, List, [], ◌∷◌, length, ◌⊎◌, inl, inr, arith}
+use Rattle.std.specs.Prelude.{codes}
 use Rattle.std.specs.List.{flat_map}
 use Rattle.std.proofs.lemmas.Bool.{cases_lt}
 use Rattle.pure_ast.specs.declared.def.Def.{Def}
@@ -14,13 +14,14 @@ use Rattle.text_meaning.specs.Lookups.{Variant, or_empty, function_name}
 use Rattle.text_meaning.specs.Names.{IsName}
 use Rattle.text_meaning.specs.Spelled as spelled
 use Rattle.text_meaning.specs.SpelledNames.{kind_tokens}
-use Rattle.text_meaning.specs.Tokens.{Token, word, id}
+use Rattle.text_meaning.specs.Tokens.{word}
 use Rattle.text_meaning.specs.WellFormed.{function_of, AreInOrder}
 use Rattle.text_meaning.specs.WellFormedTypes.{names_of}
 use Rattle.lean_reader.proofs.Declared.{HasShape, members_of}
 use Rattle.lean_reader.proofs.Distinct.{each_front, each_back, each_flat, each_so}
 use Rattle.lean_reader.proofs.NamesInTexts.{IsNamed}
 use Rattle.lean_reader.proofs.Testing.{each_mapped, each_by, within}
+use Rattle.lean_reader.proofs.TypesOutlined.{IsShaped}
 
 -- names of a type
 pub record IsNamedType (t : PType) : Type 0 where
@@ -71,10 +72,10 @@ module _ (d : Defs) where
       let variants = word (codes "where") ∷ flat_map (spelled.variant_tokens d t) t.variants in
       (h.1.0, parameters_named t.params (each_front IsNamed (flat_map spelled.type_parameter t.params) variants h.1.1), variants_named t t.variants (each_back IsNamed (flat_map spelled.type_parameter t.params) variants h.1.1).1)
 
-  type_named : (t : PType) → HasShape t.is_struct t.variants → Each IsNamed (spelled.type_declaration d t) → IsNamedType t
+  type_named : (t : PType) → IsShaped t → Each IsNamed (spelled.type_declaration d t) → IsNamedType t
   type_named t s h = let r = type_by t t.is_struct s h in record { name = r.0; params = r.1; members = r.2 }
 
-  pub types_named : (ts : List PType) → Each (λ t. HasShape t.is_struct t.variants) ts → Each IsNamed (flat_map (spelled.type_declaration d) ts) → Each IsNamedType ts
+  pub types_named : (ts : List PType) → Each IsShaped ts → Each IsNamed (flat_map (spelled.type_declaration d) ts) → Each IsNamedType ts
   types_named [] s h = tt
   types_named (t ∷ ts) s h = (
     type_named t s.0 (each_front IsNamed (spelled.type_declaration d t) (flat_map (spelled.type_declaration d) ts) h),
