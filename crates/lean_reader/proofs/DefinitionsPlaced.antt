@@ -19,7 +19,8 @@ use Rattle.lean_reader.specs.Parser.{Tokens, tail}
 use Rattle.lean_reader.specs.Tests.{place_of}
 use Rattle.lean_reader.proofs.Calling.{name_of_kind}
 use Rattle.lean_reader.proofs.DefinitionsOutlined.{finished, no_more, with_head, definition_begins, definition_outlined}
-use Rattle.lean_reader.proofs.OutlineOrder.{Grown, place_grown, has_function, definition_functions, after_grown}
+use Rattle.lean_reader.proofs.Growing.{functions_grow, with_kind_by}
+use Rattle.lean_reader.proofs.OutlineOrder.{has_function}
 use Rattle.lean_reader.proofs.Testing.{place_sound}
 
 -- a definition's function has its place, and its numbers are small
@@ -56,10 +57,10 @@ module _ (d : Defs) where
       let next = o.with_definition h (Some (name_of_kind d x.kind)) (length x.params) in
       let gs = o.with_function h.functions a in
       let p = has_function h.functions a in
-      let begun : next.functions ≡ gs = definition_functions h (name_of_kind d x.kind) (length x.params) in
-      let later : Grown gs (o.outlined_after ls next).functions = subst (λ z. Grown z (o.outlined_after ls next).functions) begun (after_grown ls next) in
-      let whole : Grown gs d.names = subst (Grown gs) (sym (e ∙ ap (λ (z : Outline). z.functions) s)) later in
-      let same : p.at ≡ function_of x.kind = same_place (place_of d.names a) p.at (function_of x.kind) (place_grown gs d.names a p.at whole p.place) w.place in
+      let begun : next.functions ≡ gs = with_kind_by h gs (kind_of gs (name_of_kind d x.kind)) (length x.params) in
+      let there : place_of next.functions a ≡ Some p.at = ap (λ z. place_of z a) begun ∙ p.place in
+      let whole : place_of d.names a ≡ Some p.at = ap (λ z. place_of z a) (e ∙ ap (λ (z : Outline). z.functions) s) ∙ functions_grow ls next a p.at there in
+      let same : p.at ≡ function_of x.kind = same_place (place_of d.names a) p.at (function_of x.kind) whole w.place in
       subst (λ j. place_of gs a ≡ Some j) same p.place
 
   pub definitions_placed : (ds : List Def) (h : Outline) (ls : Tokens) → d.names ≡ (o.outlined_after ls h).functions → Each (IsPlacedDefinition d) ds →

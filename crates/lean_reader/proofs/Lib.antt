@@ -67,3 +67,7 @@ pub mod NamesInTexts
 pub mod NamedTokens
 pub mod DeclaredFit
 pub mod Assembling
+pub mod Left
+pub mod Passing
+pub mod Growing
+pub mod BrokenWithin

@@ -1,6 +1,6 @@
 -- In the outline of any lexemes functions differ, and are numbered in the order of their first
--- definitions; and once there they stay.
-use Rattle.std.proofs.Common.{◌≡◌, refl, ap, sym, subst, ◌∙◌, ℕ, suc, ◌<◌, Bool, true, false, List, [], ◌∷◌, ◌++◌, length, length-append, append_assoc, append-nil, Option, Some, None, ◌⊎◌, inl, inr, arith, eqb-true, eq-eqb}
+-- definitions.
+use Rattle.std.proofs.Common.{◌≡◌, refl, ap, sym, subst, ◌∙◌, ℕ, suc, ◌<◌, Bool, true, false, List, [], ◌∷◌, ◌++◌, length, length-append, Option, Some, None, ◌⊎◌, inl, inr, arith, eqb-true, eq-eqb}
 use Rattle.std.specs.Prelude.{◌==◌, ◌&&◌, nat_lt, if◌then◌else◌, is_some, bytes_eq}
 use Rattle.std.specs.Option.{option_map}
 use Rattle.pure_ast.specs.declared.def.DefKind.{DefKind}
@@ -23,29 +23,6 @@ use Rattle.lean_reader.proofs.Fits.{lt_is, lt_not}
 use Rattle.lean_reader.proofs.Numbers.{and_true, bytes_same}
 use Rattle.lean_reader.proofs.Testing.{place_sound, within}
 
--- lists that go on
-abbrev pub Grown : List (List ℕ) → List (List ℕ) → Type 0
-Grown fs gs = (more : List (List ℕ)) × (gs ≡ fs ++ more)
-
-grown_same : (fs gs : List (List ℕ)) → gs ≡ fs → Grown fs gs
-grown_same fs gs e = ([], e ∙ sym (append-nil fs))
-
-grown_join : (fs gs hs : List (List ℕ)) → Grown fs gs → Grown gs hs → Grown fs hs
-grown_join fs gs hs p q = (p.0 ++ q.0, q.1 ∙ ap (λ x. x ++ q.0) p.1 ∙ append_assoc fs p.0 q.0)
-
-grown_by : (b : Bool) (o p : Option ℕ) (k : ℕ) → ((j : ℕ) → o ≡ Some j → p ≡ Some j) → (if b then Some 0 else option_map (λ j. suc j) o) ≡ Some k → (if b then Some 0 else option_map (λ j. suc j) p) ≡ Some k
-grown_by true o p k r h = h
-grown_by false None p k r h = absurd cc
-grown_by false (Some j) p k r h = ap (option_map (λ j. suc j)) (r j refl) ∙ h
-
-place_more : (fs more : List (List ℕ)) (a : List ℕ) (k : ℕ) → place_of fs a ≡ Some k → place_of (fs ++ more) a ≡ Some k
-place_more [] more a k h = absurd cc
-place_more (n ∷ ns) more a k h = grown_by (bytes_eq n a) (place_of ns a) (place_of (ns ++ more) a) k (λ j e. place_more ns more a j e) h
-
--- a name keeps its place
-pub place_grown : (fs gs : List (List ℕ)) (a : List ℕ) (k : ℕ) → Grown fs gs → place_of fs a ≡ Some k → place_of gs a ≡ Some k
-place_grown fs gs a k p h = subst (λ x. place_of x a ≡ Some k) (sym p.1) (place_more fs p.0 a k h)
-
 -- a function that is looked for
 new_by : (b : Bool) (o p : Option ℕ) (n : ℕ) → (o ≡ None → p ≡ Some n) → (if b then Some 0 else option_map (λ j. suc j) o) ≡ None → (if b then Some 0 else option_map (λ j. suc j) p) ≡ Some (suc n)
 new_by true o p n r h = absurd cc
@@ -65,7 +42,6 @@ with_new fs a h = ap (λ o. if is_some o then fs else fs ++ a ∷ []) h
 pub record HasFunction (fs gs : List (List ℕ)) (a : List ℕ) : Type 0 where
   pub at : ℕ
   pub place : place_of gs a ≡ Some at
-  pub grown : Grown fs gs
   pub order : ((at < length fs) × (gs ≡ fs)) ⊎ ((at ≡ length fs) × (gs ≡ fs ++ a ∷ []))
   pub differ : Differ fs → Differ gs
 
@@ -75,7 +51,6 @@ has_by fs a (Some k) e =
     record {
       at = k;
       place = subst (λ x. place_of x a ≡ Some k) (sym w) e;
-      grown = grown_same fs (o.with_function fs a) w;
       order = inl (within fs k a (place_sound fs a k e), w);
       differ = λ d. subst Differ (sym w) d;
     }
@@ -84,7 +59,6 @@ has_by fs a None e =
     record {
       at = length fs;
       place = subst (λ x. place_of x a ≡ Some (length fs)) (sym w) (place_new fs a e);
-      grown = (a ∷ [], w);
       order = inr (refl, w);
       differ = λ d. subst Differ (sym w) (differ_last fs a d (not_in a fs (ap (λ o. is_some o) e)));
     }
@@ -161,33 +135,3 @@ after_ordered (l ∷ ls) h w = after_ordered ls (o.declared (g.lexeme_sign l) ls
 
 pub outline_ordered : (ls : Tokens) → IsOrdered (o.outline ls)
 outline_ordered ls = after_ordered ls o.nothing (record { order = refl; differ = tt })
-
--- functions only grow
-kind_functions : (h : Outline) (fs : List (List ℕ)) (k : Option DefKind) (count : ℕ) → (o.with_kind h fs k count).functions ≡ fs
-kind_functions h fs None count = refl
-kind_functions h fs (Some k) count = refl
-
-pub definition_functions : (h : Outline) (n : DefinitionName) (count : ℕ) → (o.with_definition h (Some n) count).functions ≡ o.with_function h.functions n.function
-definition_functions h n count = kind_functions h (o.with_function h.functions n.function) (kind_of (o.with_function h.functions n.function) n) count
-
-definition_grown : (h : Outline) (n : Option DefinitionName) (count : ℕ) → Grown h.functions (o.with_definition h n count).functions
-definition_grown h None count = grown_same h.functions h.functions refl
-definition_grown h (Some n) count = subst (Grown h.functions) (sym (definition_functions h n count)) (has_function h.functions n.function).grown
-
-declared_grown : (s : Sign) (ls : Tokens) (h : Outline) → Grown h.functions (o.declared s ls h).functions
-declared_grown S.Structure ls h = grown_same h.functions h.functions refl
-declared_grown S.Inductive ls h = grown_same h.functions h.functions refl
-declared_grown S.Definition ls h = definition_grown h (o.name_at ls) (g.count S.Variable S.Becomes (g.signs ls))
-declared_grown S.Where ls h = grown_same h.functions h.functions refl
-declared_grown S.Variable ls h = grown_same h.functions h.functions refl
-declared_grown S.Colon ls h = grown_same h.functions h.functions refl
-declared_grown S.Becomes ls h = grown_same h.functions h.functions refl
-declared_grown S.Bar ls h = grown_same h.functions h.functions refl
-declared_grown S.To ls h = grown_same h.functions h.functions refl
-declared_grown S.Other ls h = grown_same h.functions h.functions refl
-
-pub after_grown : (ls : Tokens) (h : Outline) → Grown h.functions (o.outlined_after ls h).functions
-after_grown [] h = grown_same h.functions h.functions refl
-after_grown (l ∷ ls) h =
-    let next = o.declared (g.lexeme_sign l) ls h in
-    grown_join h.functions next.functions (o.outlined_after ls next).functions (declared_grown (g.lexeme_sign l) ls h) (after_grown ls next)

@@ -18,18 +18,16 @@ use std::alloc::Global;
 use text_tokens::Lexeme;
 
 /// A type has a variant of this name with so many parts, where the type is declared.
-fn variant_of(
-    tables: &Tables,
-    ty: &Name,
-    variant: &Name,
-    count: u32,
-    place: u32,
-) -> Option<usize>
+fn variant_of(tables: &Tables, ty: &Name, variant: &Name, count: u32, place: u32) -> Option<usize>
     ensures { result ≡ spec.variant_of (outlines.type_of tables.now ty.now) (outlines.constructor_of tables.now ty.now variant.now) count place }
 {
     match tables.type_of(ty) {
         None => Some(place as usize),
-        Some(_) => has_parts(tables.constructor_of(ty, variant), count, place as usize + 2),
+        Some(_) => has_parts(
+            tables.constructor_of(ty, variant),
+            count,
+            place as usize + 2,
+        ),
     }
 }
 

@@ -10,7 +10,7 @@ use aen_base::NoMem;
 
 /// How a token is noted.
 #[derive(Clone, Copy)]
-pub(crate) enum Noting {
+pub enum Noting {
     /// Not at all.
     Nothing,
     /// In this role.
@@ -21,7 +21,7 @@ pub(crate) enum Noting {
 
 /// What a part counts, by what the part around it counts.
 #[derive(Clone, Copy)]
-pub(crate) enum Counting {
+pub enum Counting {
     /// The same.
     Same,
     /// The parts of the name that begins the production, from none on.
@@ -32,7 +32,7 @@ pub(crate) enum Counting {
 
 /// A symbol of the grammar with its attributes.
 #[derive(Clone, Copy)]
-pub(crate) enum Attributed {
+pub enum Attributed {
     Token(Terminal, Noting),
     Part(Nonterminal, Counting),
 }
@@ -51,9 +51,9 @@ impl Attributed {
 
 /// The name whose parts are counted: the place where it begins, and how many parts were read.
 #[derive(Clone, Copy)]
-pub(crate) struct Count {
-    pub(crate) start: u32,
-    pub(crate) parts: u32,
+pub struct Count {
+    pub start: u32,
+    pub parts: u32,
 }
 
 impl Count {
@@ -81,7 +81,7 @@ impl Count {
 
 /// A symbol that is to come, with what was counted before it.
 #[derive(Clone, Copy)]
-pub(crate) enum Coming {
+pub enum Coming {
     Token(Terminal, Noting, u32),
     Part(Nonterminal, Count),
 }

@@ -12,7 +12,9 @@ mod table;
 mod tests;
 mod words;
 
+pub use attributed::{Attributed, Coming, Count, Counting, Noting};
 pub use laws::spellings_are_grammatical;
 pub use noting::occurrences;
 pub use recognizer::grammar_fault;
 pub use role::{Occurrence, Role};
+pub use symbol::{Nonterminal, Symbol, Terminal};

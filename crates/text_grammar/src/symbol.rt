@@ -2,7 +2,7 @@
 
 /// A token of the grammar.
 #[derive(Clone, Copy, PartialEq, Eq)]
-pub(crate) enum Terminal {
+pub enum Terminal {
     /// `true`
     True,
     /// `false`
@@ -129,7 +129,7 @@ pub(crate) enum Terminal {
 
 /// A part of a text.
 #[derive(Clone, Copy)]
-pub(crate) enum Nonterminal {
+pub enum Nonterminal {
     /// A whole text.
     Text,
     /// Declarations of types.
@@ -210,7 +210,7 @@ pub(crate) enum Nonterminal {
 
 /// A symbol of the grammar.
 #[derive(Clone, Copy)]
-pub(crate) enum Symbol {
+pub enum Symbol {
     Token(Terminal),
     Part(Nonterminal),
 }
