@@ -58,6 +58,15 @@ pub mod TextsRead
 pub mod Matched
 pub mod Declared
 pub mod Leasts
+pub mod Distinct
+pub mod Firsts
+pub mod Sounding
+pub mod OutlineOrder
+pub mod DefinitionsPlaced
+pub mod NamesInTexts
+pub mod NamedTokens
+pub mod DeclaredFit
+pub mod Assembling
 pub mod Left
 pub mod Passing
 pub mod Growing
