@@ -62,3 +62,4 @@ pub mod Left
 pub mod Passing
 pub mod LeftTokens
 pub mod LeftTypes
+pub mod LeftHeads
