@@ -63,3 +63,5 @@ pub mod Passing
 pub mod LeftTokens
 pub mod LeftTypes
 pub mod LeftHeads
+pub mod LeftVariants
+pub mod LeftDeclarations
