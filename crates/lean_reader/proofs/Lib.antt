@@ -61,7 +61,10 @@ pub mod Leasts
 pub mod Left
 pub mod Passing
 pub mod LeftTokens
+pub mod LeftNames
+pub mod LeftArguments
 pub mod LeftTypes
 pub mod LeftHeads
+pub mod LeftEnds
 pub mod LeftVariants
 pub mod LeftDeclarations
