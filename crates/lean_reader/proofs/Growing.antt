@@ -1,5 +1,5 @@
 -- The functions of an outline only grow, so the function of each definition of a text is one of them.
-use Rattle.std.proofs.Common.{◌≡◌, refl, ap, sym, subst, ◌∙◌, ℕ, zero, suc, Bool, true, false, List, [], ◌∷◌, ◌++◌, drop, Option, Some, None}
+use Rattle.std.proofs.Common.{◌≡◌, refl, ap, subst, ◌∙◌, ℕ, zero, suc, Bool, true, false, List, [], ◌∷◌, ◌++◌, drop, Option, Some, None}
 use Rattle.std.specs.Prelude.{if◌then◌else◌, is_some, bytes_eq, codes}
 use Rattle.std.specs.Option.{option_map}
 use Rattle.pure_ast.specs.declared.def.DefKind.{DefKind}

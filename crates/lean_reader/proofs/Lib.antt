@@ -71,3 +71,11 @@ pub mod Left
 pub mod Passing
 pub mod Growing
 pub mod BrokenWithin
+pub mod LeftTokens
+pub mod LeftNames
+pub mod LeftArguments
+pub mod LeftTypes
+pub mod LeftHeads
+pub mod LeftEnds
+pub mod LeftVariants
+pub mod LeftDeclarations
