@@ -89,8 +89,8 @@ role_below h ls c R.Constructor ts name count place l =
     (unless_below (length ls) (count == 1) (place + 2) (omega arith))
     (variant_below (length ls) (type_of h (first_name ts)) (constructor_of h (first_name ts) (first_name name)) count place (omega arith))
 role_below h ls c R.Call ts name count place l =
-    either (length ls) (starts_word (codes "fn") ts) (r.by_function (place_of h.functions (first_name name)) h ls ts count place) (r.by_primitive ls (primitive ts) count)
-    (function_below (place_of h.functions (first_name name)) h ls ts count place (omega arith)) (primitive_below ls (primitive ts) count (omega arith))
+    either (length ls) (starts_word (codes "fn") ts) (r.by_function (place_of (r.bearers ls) (first_name name)) h ls ts count place) (r.by_primitive ls (primitive ts) count)
+    (function_below (place_of (r.bearers ls) (first_name name)) h ls ts count place (omega arith)) (primitive_below ls (primitive ts) count (omega arith))
 
 -- all places where rules are broken
 others_below : (n : ℕ) (o : Option ℕ) (ks : List ℕ) → Below n o → Each (λ k. k < n) ks → Each (λ k. k < n) (and_others o ks)

@@ -1,5 +1,5 @@
 -- The functions of an outline only grow, so the function of each definition of a text is one of them.
-use Rattle.std.proofs.Common.{◌≡◌, refl, ap, sym, subst, ◌∙◌, ℕ, zero, suc, Bool, true, false, List, [], ◌∷◌, ◌++◌, drop, Option, Some, None}
+use Rattle.std.proofs.Common.{◌≡◌, refl, ap, subst, ◌∙◌, ℕ, zero, suc, Bool, true, false, List, [], ◌∷◌, ◌++◌, drop, Option, Some, None}
 use Rattle.std.specs.Prelude.{if◌then◌else◌, is_some, bytes_eq, codes}
 use Rattle.std.specs.Option.{option_map}
 use Rattle.pure_ast.specs.declared.def.DefKind.{DefKind}
@@ -16,7 +16,7 @@ use Rattle.lean_reader.specs.Parser.{Tokens}
 use Rattle.lean_reader.specs.Signs.{lexeme_sign}
 use Rattle.lean_reader.specs.Tests.{place_of}
 use Rattle.lean_reader.proofs.DefinitionsOutlined.{definition_sign}
-use Rattle.lean_reader.proofs.Numbers.{bytes_same}
+use Rattle.lean_reader.proofs.OutlineOrder.{has_function}
 use Rattle.lean_reader.proofs.Signing.{stands_sign}
 
 -- a name that is there stays in its place
@@ -37,7 +37,7 @@ with_function_by : (b : Bool) (fs : List (List ℕ)) (f : List ℕ) → Keeps fs
 with_function_by true fs f a k e = e
 with_function_by false fs f a k e = keeps_append fs (f ∷ []) a k e
 
-with_kind_by : (h : Outline) (fs : List (List ℕ)) (w : Option DefKind) (count : ℕ) → (o.with_kind h fs w count).functions ≡ fs
+pub with_kind_by : (h : Outline) (fs : List (List ℕ)) (w : Option DefKind) (count : ℕ) → (o.with_kind h fs w count).functions ≡ fs
 with_kind_by h fs None count = refl
 with_kind_by h fs (Some kd) count = refl
 
@@ -65,28 +65,8 @@ functions_grow [] h a k e = e
 functions_grow (l ∷ ls) h a k e = functions_grow ls (o.declared (lexeme_sign l) ls h) a k (declared_grows (lexeme_sign l) ls h a k e)
 
 -- a function that was entered is there
-last_by : (b : Bool) (w : Option ℕ) (m : ℕ) → b ≡ false → w ≡ Some m → (if b then Some 0 else option_map (λ j. suc j) w) ≡ Some (suc m)
-last_by true o m h e = absurd cc
-last_by false o m h e = ap (λ (v : Option ℕ). option_map (λ j. suc j) v) e
-
-none_first : (b : Bool) (w : Option ℕ) → (if b then Some 0 else option_map (λ j. suc j) w) ≡ None → (b ≡ false) × (w ≡ None)
-none_first true o e = absurd cc
-none_first false None e = (refl, refl)
-none_first false (Some j) e = absurd cc
-
-place_last : (fs : List (List ℕ)) (a : List ℕ) → place_of fs a ≡ None → (k : ℕ) × (place_of (fs ++ a ∷ []) a ≡ Some k)
-place_last [] a e = (0, ap (λ (b : Bool). let w : Option ℕ = if b then Some 0 else None in w) (bytes_same a))
-place_last (f ∷ fs) a e =
-    let n = none_first (bytes_eq f a) (place_of fs a) e in
-    let r = place_last fs a n.1 in
-    (suc r.0, last_by (bytes_eq f a) (place_of (fs ++ a ∷ []) a) r.0 n.0 r.1)
-
-entered_by : (w : Option ℕ) (fs : List (List ℕ)) (a : List ℕ) → place_of fs a ≡ w → (k : ℕ) × (place_of (if is_some w then fs else fs ++ a ∷ []) a ≡ Some k)
-entered_by None fs a e = place_last fs a e
-entered_by (Some k) fs a e = (k, e)
-
 entered : (fs : List (List ℕ)) (a : List ℕ) → (k : ℕ) × (place_of (o.with_function fs a) a ≡ Some k)
-entered fs a = entered_by (place_of fs a) fs a refl
+entered fs a = let p = has_function fs a in (p.at, p.place)
 
 entered_so : (h : Outline) (w : Option DefinitionName) (n : DefinitionName) (count : ℕ) → w ≡ Some n → (k : ℕ) × (place_of (o.with_definition h w count).functions n.function ≡ Some k)
 entered_so h None n count e = absurd cc
