@@ -7,6 +7,6 @@ use Rattle.lean_reader.specs.Parser.{Tokens}
 use Rattle.lean_reader.proofs.Assembling.{assembled}
 use Rattle.lean_reader.proofs.LeftText.{ruled}
 
--- so what isn't read breaks one
+-- what is not read breaks one
 pub breaks_one : (text : List ℕ) (ls : Tokens) → AreLexemes ls text → AreNone ls → KeepsRules ls → ⊥
 breaks_one text ls lexed none kept = let r = assembled text ls lexed (ruled ls kept) in none r.0 r.1
