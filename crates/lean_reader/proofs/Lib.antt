@@ -60,3 +60,5 @@ pub mod Declared
 pub mod Leasts
 pub mod Left
 pub mod Passing
+pub mod PassingRead
+pub mod LeftNames
