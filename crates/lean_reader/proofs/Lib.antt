@@ -62,3 +62,5 @@ pub mod Left
 pub mod Passing
 pub mod LeftRows
 pub mod LeftCode
+pub mod PassingRead
+pub mod LeftNames
