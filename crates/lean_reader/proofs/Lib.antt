@@ -64,3 +64,5 @@ pub mod LeftRows
 pub mod LeftCode
 pub mod PassingRead
 pub mod LeftNames
+pub mod LeftTokens
+pub mod LeftTypes
