@@ -28,7 +28,8 @@ use Rattle.lean_reader.specs.Outlines.{environment}
 use Rattle.lean_reader.specs.Parser.{Tokens}
 use Rattle.lean_reader.specs.RuleContext.{Context}
 use Rattle.lean_reader.proofs.Left.{Left, part_left, taken, AreKept, after_all, Got}
-use Rattle.lean_reader.proofs.LeftRows.{row, variable_left, one_of_both}
+use Rattle.lean_reader.proofs.LeftRows.{row, variable_left}
+use Rattle.lean_reader.proofs.LeftTokens.{either}
 use Rattle.lean_reader.proofs.Passing.{word_stands, mark_stands}
 use Rattle.lean_reader.proofs.Standing.{Reads, reads_join, reads_same}
 
@@ -202,7 +203,7 @@ module _ (h : Outline) (all : Tokens) where
         let r = both n in (
           λ k a rest ls c l x.
               let p = part_left h all k N.Code a rest ls c x in
-              either_way n r.0 r.1 k a rest ls c l p.production (one_of_both p.production computations others p.one) p.kept p.left,
+              either_way n r.0 r.1 k a rest ls c l p.production (either p.production computations others p.one) p.kept p.left,
           λ k a rest ls c l x. let p = part_left h all k N.Arms a rest ls c x in arms_by n r.0 r.1 k a rest ls c l p.production p.one p.kept p.left,
         )
 

@@ -1,6 +1,6 @@
 -- Tokens without a role, and variables, are taken off what is left of a text that keeps the rules.
-use Rattle.std.proofs.Common.{◌≡◌, refl, ap, sym, subst, ◌∙◌, ℕ, suc, ◌+◌, ◌≤◌, ◌<◌, arith, Bool, true, false, List, [], ◌∷◌, ◌++◌, map, length, drop, Option, Some, None, ◌⊎◌, inl, inr, pos}
-use Rattle.std.specs.Prelude.{codes, is_some}
+use Rattle.std.proofs.Common.{◌≡◌, refl, ap, sym, subst, ◌∙◌, ℕ, suc, ◌+◌, ◌≤◌, ◌<◌, arith, true, List, [], ◌∷◌, ◌++◌, map, length, pos}
+use Rattle.std.specs.Prelude.{codes}
 use Rattle.std.specs.Fmt.{decimal}
 use Rattle.text_meaning.specs.Ranges.{IsSmall}
 use Rattle.text_meaning.specs.SpelledNames.{var_token}
@@ -14,36 +14,15 @@ use Rattle.text_grammar.specs.declared.attributed.Noting.TheVariants.{Nothing, A
 use Rattle.text_grammar.specs.declared.role.Role.TheVariants as R
 use Rattle.text_grammar.specs.declared.symbol.Terminal.{Terminal}
 use Rattle.text_grammar.specs.declared.symbol.Terminal.TheVariants as T
-use Rattle.text_grammar.specs.Derivations.{IsOneOf}
 use Rattle.text_grammar.specs.Tests as t
 use Rattle.lean_reader.specs.declared.outline.Outline.{Outline}
-use Rattle.lean_reader.specs.Calls.{first_numbered}
 use Rattle.lean_reader.specs.Parser.{Tokens}
 use Rattle.lean_reader.specs.RuleContext.{Context}
-use Rattle.lean_reader.specs.Rules.{unless}
 use Rattle.lean_reader.proofs.Left.{Left, token_left, reads_one, reads_on}
 use Rattle.lean_reader.proofs.Passing.{numbered_stands}
+use Rattle.lean_reader.proofs.PassingRead.{numbered_kept}
 use Rattle.lean_reader.proofs.Singles.{same_bytes}
 use Rattle.lean_reader.proofs.Standing.{Reads, nothing}
-
--- what a rule that is kept says
-pub unless_true : (b : Bool) (place : ℕ) → unless b place ≡ None → b ≡ true
-unless_true true place h = refl
-unless_true false place h = absurd cc
-
-pub some_is : {A : Type 0} (o : Option A) → is_some o ≡ true → (x : A) × (o ≡ Some x)
-some_is None h = absurd cc
-some_is (Some x) h = (x, refl)
-
--- an item of two lists
-pub one_of_both : {A : Type 0} (x : A) (ps qs : List A) → IsOneOf x (ps ++ qs) → IsOneOf x ps ⊎ IsOneOf x qs
-one_of_both x [] qs h = inr h
-one_of_both x (p ∷ ps) qs (inl e) = inl (inl e)
-one_of_both x (p ∷ ps) qs (inr h) = later (one_of_both x ps qs h)
-  where
-    later : IsOneOf x ps ⊎ IsOneOf x qs → IsOneOf x (p ∷ ps) ⊎ IsOneOf x qs
-    later (inl g) = inl (inr g)
-    later (inr g) = inr g
 
 -- the digits of a number stand for it
 pub digits_stand : (n : ℕ) (k : LexemeKind) → t.meets (t.digits (decimal n)) k ≡ true → Stands k (number (pos n))
@@ -105,8 +84,7 @@ module _ (h : Outline) (all : Tokens) where
   pub variable_left : (k count : ℕ) (rest : List Coming) (ls : Tokens) (c : Context) → Left h all k (C.Token T.Variable (Alone R.Variable) count ∷ rest) ls c → VariableLeft rest ls c
   variable_left k count rest ls c x =
       let f = token_left h all k T.Variable (Alone R.Variable) count rest ls c x in
-      let kept = unless_true (is_some (first_numbered (codes "v") (drop k all))) k f.kept.0 in
-      let v = some_is (first_numbered (codes "v") (f.first ∷ f.others)) (subst (λ z. is_some (first_numbered (codes "v") z) ≡ true) (sym f.here) kept) in
+      let v = numbered_kept all (codes "v") f.first f.others k k f.here f.kept.0 in
       let s = numbered_stands (codes "v") f.first f.others v.0 v.1 in
       let e = ap length f.is in
       record {

@@ -66,3 +66,5 @@ pub mod PassingRead
 pub mod LeftNames
 pub mod LeftTokens
 pub mod LeftTypes
+pub mod LeftHeads
+pub mod LeftParameters
