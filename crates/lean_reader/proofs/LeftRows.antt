@@ -2,6 +2,7 @@
 use Rattle.std.proofs.Common.{◌≡◌, refl, ap, sym, subst, ◌∙◌, ℕ, suc, ◌+◌, ◌≤◌, ◌<◌, arith, true, List, [], ◌∷◌, ◌++◌, map, length, pos}
 use Rattle.std.specs.Prelude.{codes}
 use Rattle.std.specs.Fmt.{decimal}
+use Rattle.std.proofs.lemmas.Fmt.{decimal_digit}
 use Rattle.text_meaning.specs.Ranges.{IsSmall}
 use Rattle.text_meaning.specs.SpelledNames.{var_token}
 use Rattle.text_meaning.specs.Tokens.{Token, number}
@@ -24,13 +25,6 @@ use Rattle.lean_reader.proofs.PassingRead.{numbered_kept}
 use Rattle.lean_reader.proofs.Singles.{same_bytes}
 use Rattle.lean_reader.proofs.Standing.{Reads, nothing}
 
--- the digits of a number stand for it
-pub digits_stand : (n : ℕ) (k : LexemeKind) → t.meets (t.digits (decimal n)) k ≡ true → Stands k (number (pos n))
-digits_stand n (Word v) h = absurd cc
-digits_stand n (Marked v) h = absurd cc
-digits_stand n (Digits s) h = same_bytes s (decimal n) h
-digits_stand n (Punct m) h = absurd cc
-
 -- each lexeme that is this token of the grammar stands for that
 abbrev pub IsFor : Terminal → Token → Type 0
 IsFor x u = (kind : LexemeKind) → t.passes x kind ≡ true → Stands kind u
@@ -40,6 +34,19 @@ AreFor [] [] = Unit {0}
 AreFor [] (u ∷ us) = ⊥
 AreFor (x ∷ xs) [] = ⊥
 AreFor (x ∷ xs) (u ∷ us) = IsFor x u × AreFor xs us
+
+-- the digits of a number stand for it
+digits_stand : (n : ℕ) (ds : List ℕ) → decimal n ≡ ds → (k : LexemeKind) → t.meets (t.digits ds) k ≡ true → Stands k (number (pos n))
+digits_stand n ds e (Word v) h = absurd cc
+digits_stand n ds e (Marked v) h = absurd cc
+digits_stand n ds e (Digits s) h = same_bytes s ds h ∙ sym e
+digits_stand n ds e (Punct m) h = absurd cc
+
+pub zero_stands : IsFor T.Zero (number (pos 0))
+zero_stands = digits_stand 0 (codes "0") (decimal_digit 0 (omega arith))
+
+pub one_stands : IsFor T.One (number (pos 1))
+one_stands = digits_stand 1 (codes "1") (decimal_digit 1 (omega arith))
 
 -- tokens without a role
 abbrev pub unnoted : ℕ → Terminal → Coming

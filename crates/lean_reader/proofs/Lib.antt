@@ -68,3 +68,4 @@ pub mod LeftTokens
 pub mod LeftTypes
 pub mod LeftHeads
 pub mod LeftParameters
+pub mod LeftDefinitions
