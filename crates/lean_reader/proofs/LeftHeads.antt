@@ -1,5 +1,5 @@
 -- Type parameters are read of what is left of a text.
-use Rattle.std.proofs.Common.{◌≡◌, refl, ap, sym, subst, ◌∙◌, ℕ, zero, suc, ◌<◌, ◌≤◌, ◌⊎◌, inl, inr, Bool, true, false, List, [], ◌∷◌, ◌++◌, map, length, append_assoc, append-nil, drop, Option, None, arith}
+use Rattle.std.proofs.Common.{◌≡◌, refl, sym, subst, ℕ, zero, suc, ◌<◌, ◌≤◌, inl, inr, Bool, true, false, List, [], ◌∷◌, ◌++◌, map, length, append_assoc, append-nil, None, arith}
 use Rattle.std.specs.Prelude.{◌||◌, not, codes}
 use Rattle.std.specs.List.{flat_map}
 use Rattle.text_meaning.specs.declared.mark.Mark.{Mark}
@@ -20,14 +20,13 @@ use Rattle.text_grammar.specs.Derivations.{IsOneOf}
 use Rattle.text_grammar.specs.Occurrences.{coming, closed}
 use Rattle.text_grammar.specs.Tests as t
 use Rattle.lean_reader.specs.declared.outline.Outline.{Outline}
-use Rattle.lean_reader.specs.Outlining.{first_name}
 use Rattle.lean_reader.specs.Parser.{Tokens}
 use Rattle.lean_reader.specs.RuleContext.{Context, with_parameter}
 use Rattle.lean_reader.specs.Rules.{unless, is_type, is_in, type_parameter}
 use Rattle.lean_reader.proofs.Declared.{AreFreshParameters}
 use Rattle.lean_reader.proofs.Left.{Left, AreKept, after_all, part_left, taken}
-use Rattle.lean_reader.proofs.LeftTokens.{unless_kept, mark_next, word_next, name_next}
-use Rattle.lean_reader.proofs.Standing.{Reads, reads_join, nothing}
+use Rattle.lean_reader.proofs.LeftTokens.{mark_next, word_next, name_next}
+use Rattle.lean_reader.proofs.Standing.{Reads, nothing}
 
 -- neither holds
 pub neither : (a b : Bool) (place : ℕ) → unless (not (a || b)) place ≡ None → (a ≡ false) × (b ≡ false)

@@ -65,7 +65,13 @@ pub mod LeftCode
 pub mod PassingRead
 pub mod LeftNames
 pub mod LeftTokens
+pub mod NamedTypes
+pub mod LeftArguments
 pub mod LeftTypes
 pub mod LeftHeads
 pub mod LeftParameters
 pub mod LeftDefinitions
+pub mod LeftEnds
+pub mod LeftVariants
+pub mod LeftDeclarations
+pub mod LeftText
