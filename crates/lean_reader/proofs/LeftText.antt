@@ -1,15 +1,8 @@
 -- A text that keeps the rules beside the grammar is that of types and definitions.
-use Rattle.std.proofs.Common.{◌≡◌, refl, ap, sym, subst, ◌∙◌, ℕ, List, [], ◌∷◌, ◌++◌, map, length, append-nil, ◌⊎◌, inl, inr}
+use Rattle.std.proofs.Common.{◌≡◌, refl, ap, sym, subst, ◌∙◌, ℕ, ◌+◌, arith, List, [], ◌∷◌, ◌++◌, map, length, append-nil, inl, inr}
 use Rattle.std.specs.Prelude.{codes}
-use Rattle.std.specs.List.{flat_map}
-use Rattle.pure_ast.specs.declared.def.Defs.{Defs}
-use Rattle.text_meaning.specs.SpelledCode.{code_tokens}
 use Rattle.text_meaning.specs.Tokens.{Token, word}
-use Rattle.text_meaning.specs.WellFormedCode.{IsCode}
 use Rattle.text_tokens.specs.Stands.{AllStand}
-use Rattle.text_grammar.specs.declared.attributed.Coming.{Coming}
-use Rattle.text_grammar.specs.declared.attributed.Coming.TheVariants as C
-use Rattle.text_grammar.specs.declared.attributed.Count.{Count}
 use Rattle.text_grammar.specs.declared.role.Occurrence.{Occurrence}
 use Rattle.text_grammar.specs.declared.symbol.Nonterminal.TheVariants as N
 use Rattle.text_grammar.specs.declared.symbol.Terminal.TheVariants as T
@@ -19,11 +12,13 @@ use Rattle.text_grammar.specs.Occurrences.{coming, closed, from, Occur}
 use Rattle.lean_reader.specs.Breaches.{KeepsRules}
 use Rattle.lean_reader.specs.Outlining.{outline}
 use Rattle.lean_reader.specs.Parser.{Tokens}
-use Rattle.lean_reader.specs.RuleContext.{Context, nothing_yet}
+use Rattle.lean_reader.specs.RuleContext.{nothing_yet}
 use Rattle.lean_reader.proofs.Declared.{IsRuled, AreDefined, text_tokens}
-use Rattle.lean_reader.proofs.Left.{Left, AreKept, after_all, Got, part_left, taken}
+use Rattle.lean_reader.proofs.Left.{Left, AreKept, after_all, part_left, taken}
 use Rattle.lean_reader.proofs.LeftDeclarations.{types_left}
-use Rattle.lean_reader.proofs.LeftDefinitions.{FunctionsKnown, definitions_left}
+use Rattle.lean_reader.proofs.LeftBodies.{ReadsCode}
+use Rattle.lean_reader.proofs.LeftDefinitions.{definitions_left}
+use Rattle.lean_reader.proofs.LeftKinds.{FunctionsKnown}
 use Rattle.lean_reader.proofs.LeftRows.{row}
 use Rattle.lean_reader.proofs.Passing.{word_stands}
 use Rattle.lean_reader.proofs.Standing.{Reads, reads_join}
@@ -36,8 +31,10 @@ nothing_by k (l ∷ ls) os d = elim d [ ]
 stand_whole : (ls rest : Tokens) (ts : List Token) → rest ≡ [] → Reads ls rest ts → AllStand ls ts
 stand_whole ls rest ts e r = subst (λ (z : Tokens). AllStand z ts) (sym (r.split ∙ ap (λ z. r.used ++ z) e ∙ append-nil r.used)) r.stand
 
-module _ (all : Tokens) (known : FunctionsKnown (outline all) all)
-    (code_left : (k : ℕ) (a : Count) (rest : List Coming) (ls : Tokens) (c : Context) → Left (outline all) all k (C.Part N.Code a ∷ rest) ls c → Got (outline all) all code_tokens IsCode rest ls c) where
+none_before : (n m : ℕ) → n ≡ 0 + m → n ≡ m
+none_before n m e = omega (arith, e)
+
+module _ (all : Tokens) (known : FunctionsKnown (outline all) all) (code_left : ReadsCode (outline all) all) where
   text_by : (p : Production) → IsOneOf p (attributed N.Text) → AreKept (outline all) all nothing_yet (closed (from 0) p.closes) →
       Left (outline all) all 0 (map (coming 0 (from 0)) p.symbols ++ []) all (after_all (outline all) all nothing_yet (closed (from 0) p.closes)) → IsRuled (outline all) all
   text_by p (inl e) g x =
@@ -48,7 +45,7 @@ module _ (all : Tokens) (known : FunctionsKnown (outline all) all)
       let ts = types_left h all header.place (from 0) _ header.mid nothing_yet header.left in
       let xs = definitions_left h all known code_left ts.place (from 0) [] ts.mid ts.then ts.left in
       let end = nothing_by xs.place xs.mid xs.left.occurrences xs.left.occur in
-      let counted = subst (λ (n : ℕ). AreDefined h n ts.then.definitions xs.defs) ts.types_then xs.defined in
+      let counted = subst (λ (n : ℕ). AreDefined h n ts.then.definitions xs.defs) (none_before ts.then.types (length ts.types) ts.types_then) xs.defined in
       record {
         types = ts.types;
         defs = xs.defs;

@@ -70,6 +70,8 @@ pub mod LeftArguments
 pub mod LeftTypes
 pub mod LeftHeads
 pub mod LeftParameters
+pub mod LeftKinds
+pub mod LeftBodies
 pub mod LeftDefinitions
 pub mod LeftEnds
 pub mod LeftVariants
