@@ -62,3 +62,6 @@ pub mod Left
 pub mod Passing
 pub mod PassingRead
 pub mod LeftNames
+pub mod LeftPieces
+pub mod LeftConstructors
+pub mod LeftAtoms
