@@ -40,7 +40,7 @@ use Rattle.lean_reader.proofs.Declared.{Sound}
 use Rattle.lean_reader.proofs.Heads.{typed_sound}
 use Rattle.lean_reader.proofs.Left.{Left, Got, AreKept, after_all, token_left, part_left, taken}
 use Rattle.lean_reader.proofs.LeftConstructors.{Constructed, Named, name_dot_name, exit_dot_way, constructor_by}
-use Rattle.lean_reader.proofs.LeftPieces.{Piece, joined, piece_as, piece_got, token_piece, variable_piece, split_one, reads_first}
+use Rattle.lean_reader.proofs.LeftPieces.{Piece, Counted, none_counted, one_counted, all_counted, joined, piece_as, piece_got, token_piece, variable_piece, split_one, reads_first}
 use Rattle.lean_reader.proofs.Passing.{word_stands, mark_stands}
 use Rattle.lean_reader.proofs.PassingRead.{some_of, unless_true}
 use Rattle.lean_reader.proofs.Standing.{Reads, reads_join, nothing}
@@ -222,27 +222,19 @@ module _ (h : Outline) (all : Tokens) (c : Context) where
   tupled m f (suc n) = tuple_step m n f (tupled m f n)
 
   -- the parts of a constructor, up to its bracket, where some were counted
-  abbrev Counted : Count → ℕ → Type 0
-  Counted a count = broken h all c (occurrence R.Constructor a.start (a.parts + count)) ≡ None
-
   record Arguments (a : Count) (rest : List Coming) (ls : Tokens) : Type 0 where
     pub parts : Terms
     pub piece : Piece h all c (λ d. terms_tokens d parts ++ mark M.Close ∷ []) (λ d. AreTerms d parts) rest ls
-    pub kept : Counted a (length (terms_list parts))
+    pub kept : Counted h all c R.Constructor a (length (terms_list parts))
 
   record MoreArguments (a : Count) (rest : List Coming) (ls : Tokens) : Type 0 where
     pub first : Term
     pub parts : Terms
     pub piece : Piece h all c (λ d. terms_tokens d (more_terms first parts) ++ mark M.Close ∷ []) (λ d. AreTerms d (more_terms first parts)) rest ls
-    pub kept : Counted a (suc (length (terms_list parts)))
+    pub kept : Counted h all c R.Constructor a (suc (length (terms_list parts)))
 
   abbrev Applied : ℕ → ℕ → Type 0
   Applied m n = (k : ℕ) (a : Count) (rest : List Coming) (ls : Tokens) → length ls < n → length ls ≤ m → Left h all k (C.Part N.Arguments a ∷ rest) ls c → Arguments a rest ls
-
-  one_more : (a : Count) (count : ℕ) → Counted (let b : Count = record { start = a.start; parts = suc a.parts } in b) count → Counted a (suc count)
-  one_more a count e =
-      let q : suc a.parts + count ≡ a.parts + suc count = omega arith in
-      subst (λ (x : ℕ). broken h all c (occurrence R.Constructor a.start x) ≡ None) q e
 
   more_arguments : (m n : ℕ) → Bracketed m → Applied m n → (k : ℕ) (a : Count) (rest : List Coming) (ls : Tokens) (p : Production) → length ls ≤ n → length ls ≤ m →
       IsOneOf p (followed atoms (more N.Arguments [])) → AreKept h all c (closed a p.closes) → Left h all k (map (coming k a) p.symbols ++ rest) ls (after_all h all c (closed a p.closes)) →
@@ -254,7 +246,7 @@ module _ (h : Outline) (all : Tokens) (c : Context) where
       record {
         first = u.0;
         parts = v.parts;
-        kept = one_more a (length (terms_list v.parts)) v.kept;
+        kept = one_counted h all c R.Constructor k a (length (terms_list v.parts)) v.kept;
         piece = piece_as h all c (λ d. terms_tokens d (more_terms u.0 v.parts) ++ mark M.Close ∷ []) (λ d. AreTerms d (more_terms u.0 v.parts))
             (joined h all c u.1 v.piece)
             (λ d. sym (append_assoc (term_tokens d u.0) (terms_tokens d v.parts) (mark M.Close ∷ [])))
@@ -269,11 +261,10 @@ module _ (h : Outline) (all : Tokens) (c : Context) where
       record { parts = more_terms r.first r.parts; piece = r.piece; kept = r.kept }
   applied_by m n f g k a rest ls p less few (inr (inl e)) kept x =
       let y = taken h all k a rest ls c p _ e kept x in
-      let q : a.parts ≡ a.parts + 0 = omega arith in
       record {
         parts = no_terms;
         piece = token_piece h all c (mark M.Close) T.CloseBracket (mark_stands M.Close) k a.parts rest ls y.1;
-        kept = subst (λ (x : ℕ). broken h all c (occurrence R.Constructor a.start x) ≡ None) q y.0.0;
+        kept = none_counted h all c R.Constructor a y.0.0;
       }
   applied_by m n f g k a rest ls p less few (inr (inr o)) kept x = absurd o
 
@@ -308,8 +299,7 @@ module _ (h : Outline) (all : Tokens) (c : Context) where
   built_piece : (l : Lexeme) (k : ℕ) (cs rest : List Coming) (ls : Tokens) (n : Named h all c k cs ls) → Stands l.kind (mark M.Open) → MoreArguments (from k) rest n.mid → TermPiece rest (l ∷ ls)
   built_piece l k cs rest ls n opens r =
       let count = suc (length (terms_list r.parts)) in
-      let q : 0 + count ≡ count = omega arith in
-      let b = n.known count (subst (λ (x : ℕ). broken h all c (occurrence R.Constructor k x) ≡ None) q r.kept) in
+      let b = n.known count (all_counted h all c R.Constructor k count r.kept) in
       let e1 = n.fewer in
       let e2 = r.piece.fewer in
       (built b.ctor (more_terms r.first r.parts), record {

@@ -1,5 +1,5 @@
 -- Pieces of a text that are taken off what is left of it, one after another, under the same context.
-use Rattle.std.proofs.Common.{◌≡◌, refl, ap, sym, subst, ◌∙◌, ℕ, suc, ◌≤◌, ◌<◌, arith, true, List, [], ◌∷◌, ◌++◌, length, ◌⊎◌, inl, inr, Option, Some, None}
+use Rattle.std.proofs.Common.{◌≡◌, refl, ap, sym, subst, ◌∙◌, ℕ, suc, ◌+◌, ◌≤◌, ◌<◌, arith, true, List, [], ◌∷◌, ◌++◌, length, ◌⊎◌, inl, inr, Option, Some, None}
 use Rattle.std.specs.Prelude.{codes}
 use Rattle.pure_ast.specs.declared.def.Defs.{Defs}
 use Rattle.text_meaning.specs.Ranges.{IsSmall}
@@ -10,17 +10,22 @@ use Rattle.text_tokens.specs.declared.lexeme.LexemeKind.{LexemeKind}
 use Rattle.text_tokens.specs.Stands.{Stands}
 use Rattle.text_grammar.specs.declared.attributed.Coming.{Coming}
 use Rattle.text_grammar.specs.declared.attributed.Coming.TheVariants as C
+use Rattle.text_grammar.specs.declared.attributed.Count.{Count}
+use Rattle.text_grammar.specs.declared.attributed.Counting.TheVariants.{More}
 use Rattle.text_grammar.specs.declared.attributed.Noting.TheVariants.{Nothing, Alone}
+use Rattle.text_grammar.specs.declared.role.Role.{Role}
 use Rattle.text_grammar.specs.declared.role.Role.TheVariants as R
 use Rattle.text_grammar.specs.declared.symbol.Terminal.{Terminal}
 use Rattle.text_grammar.specs.declared.symbol.Terminal.TheVariants as T
 use Rattle.text_grammar.specs.Attributes.{Production}
 use Rattle.text_grammar.specs.Derivations.{IsOneOf}
+use Rattle.text_grammar.specs.Occurrences.{occurrence, from, counted}
 use Rattle.text_grammar.specs.Tests.{passes}
 use Rattle.lean_reader.specs.declared.outline.Outline.{Outline}
 use Rattle.lean_reader.specs.Outlines.{environment}
 use Rattle.lean_reader.specs.Parser.{Tokens}
 use Rattle.lean_reader.specs.RuleContext.{Context}
+use Rattle.lean_reader.specs.Rules.{broken}
 use Rattle.lean_reader.proofs.Declared.{Sound}
 use Rattle.lean_reader.proofs.Left.{Left, Got, token_left}
 use Rattle.lean_reader.proofs.Passing.{numbered_stands}
@@ -85,6 +90,25 @@ module _ (h : Outline) (all : Tokens) (c : Context) where
   piece_got tokens Good rest ls item p =
       let less = p.fewer in
       record { item = item; mid = p.mid; place = p.place; reads = p.reads; good = p.good; left = p.left; shorter = omega arith }
+
+  -- what is kept of so many parts
+  abbrev pub Counted : Role → Count → ℕ → Type 0
+  Counted role a count = broken h all c (occurrence role a.start (a.parts + count)) ≡ None
+
+  pub none_counted : (role : Role) (a : Count) → broken h all c (occurrence role a.start a.parts) ≡ None → Counted role a 0
+  none_counted role a e =
+      let q : a.parts ≡ a.parts + 0 = omega arith in
+      subst (λ (x : ℕ). broken h all c (occurrence role a.start x) ≡ None) q e
+
+  pub one_counted : (role : Role) (k : ℕ) (a : Count) (count : ℕ) → Counted role (counted k a More) count → Counted role a (suc count)
+  one_counted role k a count e =
+      let q : suc a.parts + count ≡ a.parts + suc count = omega arith in
+      subst (λ (x : ℕ). broken h all c (occurrence role a.start x) ≡ None) q e
+
+  pub all_counted : (role : Role) (k count : ℕ) → Counted role (from k) count → broken h all c (occurrence role k count) ≡ None
+  all_counted role k count e =
+      let q : 0 + count ≡ count = omega arith in
+      subst (λ (x : ℕ). broken h all c (occurrence role k x) ≡ None) q e
 
   -- a token without a role
   pub token_piece : (token : Token) (t : Terminal) → ((kind : LexemeKind) → passes t kind ≡ true → Stands kind token) → (k count : ℕ) (rest : List Coming) (ls : Tokens) →

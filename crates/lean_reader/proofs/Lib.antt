@@ -65,3 +65,5 @@ pub mod LeftNames
 pub mod LeftPieces
 pub mod LeftConstructors
 pub mod LeftAtoms
+pub mod LeftPatterns
+pub mod LeftCalls
