@@ -77,3 +77,8 @@ pub mod LeftEnds
 pub mod LeftVariants
 pub mod LeftDeclarations
 pub mod LeftText
+pub mod LeftPieces
+pub mod LeftConstructors
+pub mod LeftAtoms
+pub mod LeftPatterns
+pub mod LeftCalls
