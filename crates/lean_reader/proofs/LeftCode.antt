@@ -28,6 +28,8 @@ use Rattle.lean_reader.specs.Outlines.{environment}
 use Rattle.lean_reader.specs.Parser.{Tokens}
 use Rattle.lean_reader.specs.RuleContext.{Context}
 use Rattle.lean_reader.proofs.Left.{Left, part_left, taken, AreKept, after_all, Got}
+use Rattle.lean_reader.proofs.LeftAtoms.{atom_left}
+use Rattle.lean_reader.proofs.LeftPatterns.{pattern_left}
 use Rattle.lean_reader.proofs.LeftRows.{row, variable_left}
 use Rattle.lean_reader.proofs.LeftTokens.{either}
 use Rattle.lean_reader.proofs.Passing.{word_stands, mark_stands}
@@ -43,15 +45,6 @@ arm_joined d p x xs =
     ap (λ z. mark M.Bar ∷ (pat_tokens d p ++ mark M.Gives ∷ word (codes "do") ∷ z)) (sym (append_assoc (code_tokens d x) (arms_tokens d xs) (mark M.Close ∷ [])))
     ∙ ap (λ z. mark M.Bar ∷ z) (sym (append_assoc (pat_tokens d p) (mark M.Gives ∷ word (codes "do") ∷ (code_tokens d x ++ arms_tokens d xs)) (mark M.Close ∷ [])))
 
--- no computation ends a name
-closes_nothing : (p : Production) (ps : List Production) → Each (λ (q : Production). q.closes ≡ None) ps → IsOneOf p ps → p.closes ≡ None
-closes_nothing p [] h one = absurd one
-closes_nothing p (q ∷ ps) h (inl e) = ap (λ (r : Production). r.closes) e ∙ h.0
-closes_nothing p (q ∷ ps) h (inr one) = closes_nothing p ps h.1 one
-
-computation_closes_nothing : (p : Production) → IsOneOf p computations → p.closes ≡ None
-computation_closes_nothing p one = closes_nothing p computations (refl, (refl, (refl, (refl, (refl, (refl, (refl, (refl, tt)))))))) one
-
 module _ (h : Outline) (all : Tokens) where
   abbrev pub Codes : ℕ → Type 0
   Codes n = (k : ℕ) (a : Count) (rest : List Coming) (ls : Tokens) (c : Context) → length ls < n → Left h all k (C.Part N.Code a ∷ rest) ls c →
@@ -61,11 +54,15 @@ module _ (h : Outline) (all : Tokens) where
   ManyArms n = (k : ℕ) (a : Count) (rest : List Coming) (ls : Tokens) (c : Context) → length ls < n → Left h all k (C.Part N.Arms a ∷ rest) ls c →
       Got h all closing_arms AreArms rest ls c
 
-  module _
-    (atom_left : (k : ℕ) (a : Count) (rest : List Coming) (ls : Tokens) (c : Context) → Left h all k (C.Part N.Atom a ∷ rest) ls c → Got h all term_tokens IsTerm rest ls c)
-    (pattern_left : (k : ℕ) (a : Count) (rest : List Coming) (ls : Tokens) (c : Context) → Left h all k (C.Part N.Pattern a ∷ rest) ls c → Got h all pat_tokens IsPattern rest ls c)
-    (computation_left : (k : ℕ) (a : Count) (rest : List Coming) (ls : Tokens) (c : Context) → Left h all k (C.Part N.Computation a ∷ rest) ls c → Got h all comp_tokens IsComp rest ls c)
-    (computation_got : (k : ℕ) (a : Count) (rest : List Coming) (ls : Tokens) (c : Context) (p : Production) → IsOneOf p computations → Left h all k (map (coming k a) p.symbols ++ rest) ls c → Got h all comp_tokens IsComp rest ls c) where
+  -- each computation is taken off
+  abbrev pub ReadsComputations : Type 0
+  ReadsComputations = (k : ℕ) (a : Count) (rest : List Coming) (ls : Tokens) (c : Context) (p : Production) → IsOneOf p computations → AreKept h all c (closed a p.closes) →
+      Left h all k (map (coming k a) p.symbols ++ rest) ls (after_all h all c (closed a p.closes)) → Got h all comp_tokens IsComp rest ls c
+
+  module _ (computation_got : ReadsComputations) where
+    computation_left : (k : ℕ) (a : Count) (rest : List Coming) (ls : Tokens) (c : Context) → Left h all k (C.Part N.Computation a ∷ rest) ls c → Got h all comp_tokens IsComp rest ls c
+    computation_left k a rest ls c x = let p = part_left h all k N.Computation a rest ls c x in computation_got k a rest ls c p.production p.one p.kept p.left
+
     -- arms, and the bracket that ends them
     arms_by : (n : ℕ) → Codes n → ManyArms n → (k : ℕ) (a : Count) (rest : List Coming) (ls : Tokens) (c : Context) → length ls < suc n →
         (p : Production) → IsOneOf p (attributed N.Arms) → AreKept h all c (closed a p.closes) → Left h all k (map (coming k a) p.symbols ++ rest) ls (after_all h all c (closed a p.closes)) →
@@ -73,7 +70,7 @@ module _ (h : Outline) (all : Tokens) where
     arms_by n codes_left arms_left k a rest ls c l p (inl e) g x =
         let t = taken h all k a rest ls c p _ e g x in
         let bar = row h all (T.Bar ∷ []) (mark M.Bar ∷ []) (mark_stands M.Bar, tt) k a.parts _ ls c t.1 in
-        let pattern = pattern_left bar.place a _ bar.mid c bar.left in
+        let pattern = pattern_left h all bar.place a _ bar.mid c bar.left in
         let gives = row h all (T.Gives ∷ T.Do ∷ []) (mark M.Gives ∷ word (codes "do") ∷ []) (mark_stands M.Gives, (word_stands (codes "do"), tt)) pattern.place a.parts _ pattern.mid c pattern.left in
         let code = codes_left gives.place a _ gives.mid c (omega (arith, l, bar.shorter, pattern.shorter, gives.shorter)) gives.left in
         let arms = arms_left code.place a rest code.mid c (omega (arith, l, bar.shorter, pattern.shorter, gives.shorter, code.shorter)) code.left in
@@ -132,7 +129,7 @@ module _ (h : Outline) (all : Tokens) where
     bound_by n codes_left k a rest start ls c v small l less r p (inr (inl e)) g x =
         let t = taken h all k a rest ls c p _ e g x in
         let is = row h all (T.Becomes ∷ []) (mark M.Becomes ∷ []) (mark_stands M.Becomes, tt) k a.parts _ ls c t.1 in
-        let atom = atom_left is.place a _ is.mid c is.left in
+        let atom = atom_left h all is.place a _ is.mid c is.left in
         let end = row h all (T.Semicolon ∷ []) (mark M.Semicolon ∷ []) (mark_stands M.Semicolon, tt) atom.place a.parts _ atom.mid c atom.left in
         let code = codes_left end.place a rest end.mid c (omega (arith, l, less, is.shorter, atom.shorter, end.shorter)) end.left in
         record {
@@ -166,7 +163,7 @@ module _ (h : Outline) (all : Tokens) where
     other_by n codes_left arms_left k a rest ls c l p (inr (inl e)) g x =
         let t = taken h all k a rest ls c p _ e g x in
         let open_ = row h all (T.OpenBracket ∷ T.Match ∷ []) (mark M.Open ∷ word (codes "match") ∷ []) (mark_stands M.Open, (word_stands (codes "match"), tt)) k a.parts _ ls c t.1 in
-        let atom = atom_left open_.place a _ open_.mid c open_.left in
+        let atom = atom_left h all open_.place a _ open_.mid c open_.left in
         let with_ = row h all (T.With ∷ []) (word (codes "with") ∷ []) (word_stands (codes "with"), tt) atom.place a.parts _ atom.mid c atom.left in
         let arms = arms_left with_.place a rest with_.mid c (omega (arith, l, open_.shorter, atom.shorter, with_.shorter)) with_.left in
         record {
@@ -184,17 +181,16 @@ module _ (h : Outline) (all : Tokens) where
     other_by n codes_left arms_left k a rest ls c l p (inr (inr e)) g x = absurd e
 
     -- a computation at the end
-    last_by : (k : ℕ) (a : Count) (rest : List Coming) (ls : Tokens) (c : Context) (p : Production) → IsOneOf p computations →
+    last_by : (k : ℕ) (a : Count) (rest : List Coming) (ls : Tokens) (c : Context) (p : Production) → IsOneOf p computations → AreKept h all c (closed a p.closes) →
         Left h all k (map (coming k a) p.symbols ++ rest) ls (after_all h all c (closed a p.closes)) → Got h all code_tokens IsCode rest ls c
-    last_by k a rest ls c p one x =
-        let y = subst (λ (o : Option Role). Left h all k (map (coming k a) p.symbols ++ rest) ls (after_all h all c (closed a o))) (computation_closes_nothing p one) x in
-        let comp = computation_got k a rest ls c p one y in
+    last_by k a rest ls c p one g x =
+        let comp = computation_got k a rest ls c p one g x in
         record { item = last comp.item; mid = comp.mid; place = comp.place; reads = comp.reads; good = comp.good; left = comp.left; shorter = comp.shorter }
 
     either_way : (n : ℕ) → Codes n → ManyArms n → (k : ℕ) (a : Count) (rest : List Coming) (ls : Tokens) (c : Context) → length ls < suc n →
         (p : Production) → IsOneOf p computations ⊎ IsOneOf p others → AreKept h all c (closed a p.closes) → Left h all k (map (coming k a) p.symbols ++ rest) ls (after_all h all c (closed a p.closes)) →
         Got h all code_tokens IsCode rest ls c
-    either_way n codes_left arms_left k a rest ls c l p (inl one) g x = last_by k a rest ls c p one x
+    either_way n codes_left arms_left k a rest ls c l p (inl one) g x = last_by k a rest ls c p one g x
     either_way n codes_left arms_left k a rest ls c l p (inr one) g x = other_by n codes_left arms_left k a rest ls c l p one g x
 
     both : (n : ℕ) → Codes n × ManyArms n

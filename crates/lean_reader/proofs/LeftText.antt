@@ -16,7 +16,7 @@ use Rattle.lean_reader.specs.RuleContext.{nothing_yet}
 use Rattle.lean_reader.proofs.Declared.{IsRuled, AreDefined, text_tokens}
 use Rattle.lean_reader.proofs.Left.{Left, AreKept, after_all, part_left, taken}
 use Rattle.lean_reader.proofs.LeftDeclarations.{types_left}
-use Rattle.lean_reader.proofs.LeftBodies.{ReadsCode}
+use Rattle.lean_reader.proofs.LeftCode.{ReadsComputations, code_left}
 use Rattle.lean_reader.proofs.LeftDefinitions.{definitions_left}
 use Rattle.lean_reader.proofs.LeftKinds.{FunctionsKnown}
 use Rattle.lean_reader.proofs.LeftRows.{row}
@@ -34,7 +34,7 @@ stand_whole ls rest ts e r = subst (λ (z : Tokens). AllStand z ts) (sym (r.spli
 none_before : (n m : ℕ) → n ≡ 0 + m → n ≡ m
 none_before n m e = omega (arith, e)
 
-module _ (all : Tokens) (known : FunctionsKnown (outline all) all) (code_left : ReadsCode (outline all) all) where
+module _ (all : Tokens) (known : FunctionsKnown (outline all) all) (computation_got : ReadsComputations (outline all) all) where
   text_by : (p : Production) → IsOneOf p (attributed N.Text) → AreKept (outline all) all nothing_yet (closed (from 0) p.closes) →
       Left (outline all) all 0 (map (coming 0 (from 0)) p.symbols ++ []) all (after_all (outline all) all nothing_yet (closed (from 0) p.closes)) → IsRuled (outline all) all
   text_by p (inl e) g x =
@@ -43,7 +43,7 @@ module _ (all : Tokens) (known : FunctionsKnown (outline all) all) (code_left : 
       let header = row h all (T.Import ∷ T.AenPrelude ∷ T.Open ∷ T.AenPrelude ∷ []) (word (codes "import") ∷ word (codes "AenPrelude") ∷ word (codes "open") ∷ word (codes "AenPrelude") ∷ [])
       (word_stands (codes "import"), (word_stands (codes "AenPrelude"), (word_stands (codes "open"), (word_stands (codes "AenPrelude"), tt)))) 0 0 _ all nothing_yet t.1 in
       let ts = types_left h all header.place (from 0) _ header.mid nothing_yet header.left in
-      let xs = definitions_left h all known code_left ts.place (from 0) [] ts.mid ts.then ts.left in
+      let xs = definitions_left h all known (code_left h all computation_got) ts.place (from 0) [] ts.mid ts.then ts.left in
       let end = nothing_by xs.place xs.mid xs.left.occurrences xs.left.occur in
       let counted = subst (λ (n : ℕ). AreDefined h n ts.then.definitions xs.defs) (none_before ts.then.types (length ts.types) ts.types_then) xs.defined in
       record {
