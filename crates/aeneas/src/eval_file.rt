@@ -4,6 +4,7 @@ ghost use Rattle.text_meaning.specs.WellFormed.{IsWellFormed};
 ghost use Rattle.aeneas.specs.Eval.{EvalReply, DefsReply, EvaluationReply, AnswerReply, WordFaultReply};
 
 use crate::definition_word::definition_word;
+use crate::fuel_limit::{FUEL_LIMIT, much_fuel};
 use crate::printed::{Printed, printed_of};
 use crate::reply::{Reply, one_line};
 use aen_base::{DefId, NoMem, Text};
@@ -13,9 +14,6 @@ use pure_ast::Defs;
 use pure_eval::eval;
 use std::alloc::Global;
 use text_meaning::Answer;
-
-/// The greatest FUEL.
-const FUEL_LIMIT: u64 = 256;
 
 /// `eval FILE DEF FUEL VALUE..`. The only error is want of memory.
 pub fn eval_file<F: Files>(
@@ -32,8 +30,7 @@ pub fn eval_file<F: Files>(
     ensures kept { F.told files.new ≡ F.told files.old }
 {
     if fuel > FUEL_LIMIT {
-        let line = format!(in alloc; "refused 10 limit fuel {fuel}\n")?;
-        return one_line(alloc, 10, line.as_str());
+        return much_fuel(alloc, fuel);
     }
     match printed_of(alloc, files, file)? {
         Printed::Read(defs) => eval_word(alloc, &defs, word, fuel, values),

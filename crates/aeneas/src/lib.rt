@@ -5,6 +5,7 @@ mod command;
 mod definition_word;
 mod eval_file;
 mod fuel;
+mod fuel_limit;
 mod printed;
 mod reply;
 mod run_file;

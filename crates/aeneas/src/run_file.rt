@@ -4,6 +4,7 @@ ghost use Rattle.source_meaning.specs.Typing.{IsTyped};
 ghost use Rattle.pointer_machine.specs.Outcomes.{IsSettled};
 ghost use Rattle.aeneas.specs.Run.{RunReply, ProgramReply, CallReply, OutcomeReply, FaultReply};
 
+use crate::fuel_limit::{FUEL_LIMIT, much_fuel};
 use crate::reply::{Reply, one_line};
 use crate::source::{Source, source_of};
 use aen_base::{FnId, NoMem, Text, at};
@@ -12,9 +13,6 @@ use call_frame::{ArgFault, Outcome, arguments, function_named, print_value};
 use pointer_machine::run;
 use rust_ast::Program;
 use std::alloc::Global;
-
-/// The greatest FUEL.
-const FUEL_LIMIT: u64 = 256;
 
 /// `run FILE FN FUEL VALUE..`. The only error is want of memory.
 pub fn run_file<F: Files>(
@@ -29,8 +27,7 @@ pub fn run_file<F: Files>(
     ensures kept { F.told files.new ≡ F.told files.old }
 {
     if fuel > FUEL_LIMIT {
-        let line = format!(in alloc; "refused 10 limit fuel {fuel}\n")?;
-        return one_line(alloc, 10, line.as_str());
+        return much_fuel(alloc, fuel);
     }
     match source_of(alloc, files, file)? {
         Source::Read(program) => run_program(alloc, &program, name, fuel, values),

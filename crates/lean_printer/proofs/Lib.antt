@@ -9,5 +9,6 @@ mod LaysTypes
 mod LaysTerms
 mod LaysCode
 mod KnownNames
+mod LaysValues
 mod LaysBinders
 mod LaysDefs

@@ -2,8 +2,12 @@
 ghost use Rattle.std.specs.Prelude.{◌≡◌, ◌+◌, ◌≤◌, ◌++◌, IfOk, OnOk, string_bytes};
 ghost use Rattle.pure_ast.specs.Values as trees;
 ghost use Rattle.pure_ast.specs.declared.def.Defs.{Defs};
+ghost use Rattle.text_meaning.specs.Atoms.{IsAtom};
+ghost use Rattle.text_meaning.specs.Lexing.{Lexed};
 ghost use Rattle.text_meaning.specs.ShownTerms.{term_text};
+ghost use Rattle.text_meaning.specs.SpelledTerms.{term_tokens};
 ghost use Rattle.text_meaning.specs.ValueTerms.{value_term};
+ghost use Rattle.text_meaning.specs.WellFormed.{IsWellFormed};
 ghost use Rattle.lean_printer.specs.Pieces as spec;
 
 use crate::names::put_ctor;
@@ -25,9 +29,11 @@ pub(crate) enum Piece<'a> {
 }
 
 /// The text of a value as a term, in time linear in its length; the depth of the value takes no
-/// stack. The only error is want of memory.
+/// stack. The text of an atom of well-formed definitions has the tokens of its value. The only
+/// error is want of memory.
 pub fn print_value(alloc: Global, defs: &Defs, value: &PValue) -> Result<Text, NoMem>
-    ensures { IfOk result (λ t. t ≡ term_text defs.now (value_term value.now)) }
+    ensures layout { IfOk result (λ t. t ≡ term_text defs.now (value_term value.now)) }
+    ensures read_back { IsWellFormed defs.now → IsAtom defs.now value.now → Lexed (term_tokens defs.now (value_term value.now)) (term_text defs.now (value_term value.now)) }
 {
     let mut out = String::new(alloc);
     let mut stack = List::new(alloc);

@@ -1,6 +1,6 @@
 -- The outline of definitions.
 use Rattle.std.proofs.Common.{◌≡◌, refl, ap, sym, ◌∙◌, ℕ, zero, suc, ◌<◌, ◌≤◌, ◌^◌, Bool, true, false, List, [], ◌∷◌, ◌++◌, length, map, take, Option, Some, None, append_assoc, append-nil, ◌⊎◌, inl, inr, arith}
-use Rattle.std.specs.Prelude.{codes, if◌then◌else◌, is_some, slice_get, bytes_eq}
+use Rattle.std.specs.Prelude.{codes, if◌then◌else◌, slice_get, bytes_eq}
 use Rattle.std.specs.List.{flat_map}
 use Rattle.std.specs.Option.{option_map}
 use Rattle.pure_ast.specs.declared.def.Def.{Def}
@@ -14,7 +14,7 @@ use Rattle.text_meaning.specs.SpelledCode.{code_tokens}
 use Rattle.text_meaning.specs.SpelledNames.{kind_tokens}
 use Rattle.text_meaning.specs.SpelledTypes.{type_tokens}
 use Rattle.text_meaning.specs.Tokens.{Token, word, mark}
-use Rattle.text_meaning.specs.WellFormed.{function_of, AreInOrder, IsDefinition}
+use Rattle.text_meaning.specs.WellFormed.{function_of, AreInOrder, IsKind, IsDefinition}
 use Rattle.text_tokens.specs.Stands.{AllStand}
 use Rattle.lean_reader.specs.declared.outline.DefinitionHead.{DefinitionHead}
 use Rattle.lean_reader.specs.declared.outline.Outline.{Outline}
@@ -28,6 +28,7 @@ use Rattle.lean_reader.specs.Tests.{place_of}
 use Rattle.lean_reader.proofs.Agreement.{tokens_of_name}
 use Rattle.lean_reader.proofs.Calling.{name_of_kind, kind_spelled, kind_named, definition_name_read, NoDot}
 use Rattle.lean_reader.proofs.Defining.{named_kind}
+use Rattle.lean_reader.proofs.OutlineOrder.{with_known, with_new}
 use Rattle.lean_reader.proofs.Signing.{token_sign, tally, tally_append, tally_none, count_stands, type_no_signs, implicit_tally, variables_tally, kind_no_signs}
 use Rattle.lean_reader.proofs.Silence.{silent, silent_append, silent_flat, type_silent, kind_silent, code_silent}
 use Rattle.lean_reader.proofs.Singles.{starts_mark}
@@ -112,11 +113,11 @@ module _ (d : Defs) where
   no_dot_by [] cs bs us ls h = starts_mark M.Open M.Dot ls _ h
   no_dot_by (p ∷ ps) cs bs us ls h = starts_mark M.OpenBrace M.Dot ls _ h
 
-  name_is : (x : Def) (us : List Token) (ls : Tokens) → IsDefinition d x → AllStand ls (body x ++ us) → o.name_at ls ≡ Some (name_of_kind d x.kind)
+  name_is : (x : Def) (us : List Token) (ls : Tokens) → IsKind x.kind → AllStand ls (body x ++ us) → o.name_at ls ≡ Some (name_of_kind d x.kind)
   name_is x us ls w h =
       let n = name_of_kind d x.kind in
       let l = stand_same ls (body x ++ us) (tokens_of_name n ++ (binders_on x ++ us)) (append_assoc (kind_tokens d x.kind) (binders_on x) us ∙ ap (λ z. z ++ (binders_on x ++ us)) (kind_spelled d x.kind)) h in
-      let r = definition_name_read n ls (binders_on x ++ us) (kind_named d x.kind w.kind) (no_dot_by x.type_params (spelled.parameters_tokens d x.type_params 0 x.params) (result_on x) us) l in
+      let r = definition_name_read n ls (binders_on x ++ us) (kind_named d x.kind w) (no_dot_by x.type_params (spelled.parameters_tokens d x.type_params 0 x.params) (result_on x) us) l in
       ap (option_map (λ (p : DefinitionName × Tokens). p.0)) r.is
 
   -- no declaration begins in a definition
@@ -132,7 +133,7 @@ module _ (d : Defs) where
       (silent_append (type_tokens d x.type_params x.result) _ (type_silent d x.type_params x.result) (code_silent d x.code)))
 
   -- the functions up to a definition
-  abbrev with_head : Outline → List (List ℕ) → DefinitionHead → Outline
+  abbrev pub with_head : Outline → List (List ℕ) → DefinitionHead → Outline
   with_head h fs x = record { types = h.types; functions = fs; definitions = h.definitions ++ x ∷ [] }
 
   heads_by : (h : Outline) (x : Def) (fs : List (List ℕ)) → o.with_function h.functions (function_name d (function_of x.kind)) ≡ fs → place_of fs (function_name d (function_of x.kind)) ≡ Some (function_of x.kind) →
@@ -140,30 +141,26 @@ module _ (d : Defs) where
   heads_by h x fs e place =
       ap (λ fs. o.with_functions h fs (name_of_kind d x.kind) (length x.params)) e ∙ ap (λ k. o.with_kind h fs k (length x.params)) (named_kind d x.kind (place_of fs (function_name d (function_of x.kind))) place)
 
-  definition_outlined : (x : Def) (h : Outline) (fs : List (List ℕ)) (us : List Token) (ls : Tokens) → IsDefinition d x →
+  pub definition_begins : (x : Def) (h : Outline) (us : List Token) (ls : Tokens) → IsKind x.kind → length x.params ≤ 2 ^ 32 → AllStand ls (spelled.definition d x ++ us) →
+      o.outlined_after ls h ≡ o.outlined_after (tail ls) (o.with_definition h (Some (name_of_kind d x.kind)) (length x.params))
+  definition_begins x h us ls small count stand =
+      let l1 = stand_tail ls (word (codes "def")) (body x ++ us) stand in
+      first_declared h (word (codes "def")) (body x ++ us) ls stand ∙ ap (λ s. o.outlined_after (tail ls) (o.declared s (tail ls) h)) definition_sign
+      ∙ (λ i. o.outlined_after (tail ls) (o.with_definition h (name_is x us (tail ls) small l1 i) (parameters_are x us (tail ls) count l1 i)))
+
+  pub definition_outlined : (x : Def) (h : Outline) (fs : List (List ℕ)) (us : List Token) (ls : Tokens) → IsKind x.kind → length x.params ≤ 2 ^ 32 →
       o.with_function h.functions (function_name d (function_of x.kind)) ≡ fs → place_of fs (function_name d (function_of x.kind)) ≡ Some (function_of x.kind) → AllStand ls (spelled.definition d x ++ us) →
       (rest : Tokens) × AllStand rest us × (o.outlined_after ls h ≡ o.outlined_after rest (with_head h fs (definition_head x)))
-  definition_outlined x h fs us ls w e place stand =
+  definition_outlined x h fs us ls small count e place stand =
       let l1 = stand_tail ls (word (codes "def")) (body x ++ us) stand in
       let head = with_head h fs (definition_head x) in
-      let s = skip_silent head (body x) us (tail ls) (body_silent x) l1 in (
-        s.rest,
-        s.stand,
-        first_declared h (word (codes "def")) (body x ++ us) ls stand ∙ ap (λ s. o.outlined_after (tail ls) (o.declared s (tail ls) h)) definition_sign
-            ∙ (λ i. o.outlined_after (tail ls) (o.with_definition h (name_is x us (tail ls) w l1 i) (parameters_are x us (tail ls) w.count l1 i)))
-            ∙ ap (o.outlined_after (tail ls)) (heads_by h x fs e place) ∙ s.same,
-      )
+      let s = skip_silent head (body x) us (tail ls) (body_silent x) l1 in
+      (s.rest, s.stand, definition_begins x h us ls small count stand ∙ ap (o.outlined_after (tail ls)) (heads_by h x fs e place) ∙ s.same)
 
-  with_known : (fs : List (List ℕ)) (a : List ℕ) (f : ℕ) → place_of fs a ≡ Some f → o.with_function fs a ≡ fs
-  with_known fs a f h = ap (λ o. if is_some o then fs else fs ++ a ∷ []) h
-
-  with_new : (fs : List (List ℕ)) (a : List ℕ) → place_of fs a ≡ None → o.with_function fs a ≡ fs ++ a ∷ []
-  with_new fs a h = ap (λ o. if is_some o then fs else fs ++ a ∷ []) h
-
-  abbrev finished : Outline → List Def → Outline
+  abbrev pub finished : Outline → List Def → Outline
   finished h ds = record { types = h.types; functions = d.names; definitions = h.definitions ++ map definition_head ds }
 
-  no_more : (h : Outline) (ls : Tokens) → AllStand ls [] → o.outlined_after ls h ≡ h
+  pub no_more : (h : Outline) (ls : Tokens) → AllStand ls [] → o.outlined_after ls h ≡ h
   no_more h [] stand = refl
   no_more h (l ∷ ls) stand = absurd stand
 
@@ -191,7 +188,7 @@ module _ (d : Defs) where
             o.outlined_after ls h ≡ finished h (x ∷ ds)
         go_on later j r w l =
             let head = with_head h (take j d.names) (definition_head x) in
-            let s = definition_outlined x h (take j d.names) (flat_map (spelled.definition d) ds) ls g.0 w (place_before d.names (function_name d (function_of x.kind)) j (function_of x.kind) place l) stand in
+            let s = definition_outlined x h (take j d.names) (flat_map (spelled.definition d) ds) ls g.0.kind g.0.count w (place_before d.names (function_name d (function_of x.kind)) j (function_of x.kind) place l) stand in
             s.2 ∙ later j head s.0 refl r s.1
             ∙ (λ i. record { types = h.types; functions = d.names; definitions = append_assoc h.definitions (definition_head x ∷ []) (map definition_head ds) i })
 

@@ -58,15 +58,15 @@ order_by_sound true c n k A B x y p q h g i = inl (ltb-true n k p, g h)
 order_by_sound false true n k A B x y p q h g i = inr (eqb-true n k q, i h)
 order_by_sound false false n k A B x y p q h g i = absurd cc
 
-order_sound : (k count : ℕ) (ds : List Def) → f.are_in_order k (map definition_head ds) count ≡ true → AreInOrder k ds count
+pub order_sound : (k count : ℕ) (ds : List Def) → f.are_in_order k (map definition_head ds) count ≡ true → AreInOrder k ds count
 order_sound k count [] h = eqb-true k count h
 order_sound k count (d ∷ ds) h =
     order_by_sound (nat_lt (function_of d.kind) k) (function_of d.kind == k) (function_of d.kind) k _ _ _ _ refl refl h (order_sound k count ds) (order_sound (suc k) count ds)
 
-lt_is : (n k : ℕ) → n < k → nat_lt n k ≡ true
+pub lt_is : (n k : ℕ) → n < k → nat_lt n k ≡ true
 lt_is n k h = grind (arith, nat_tests)
 
-lt_not : (n k : ℕ) → n ≡ k → nat_lt n k ≡ false
+pub lt_not : (n k : ℕ) → n ≡ k → nat_lt n k ≡ false
 lt_not n k h = grind (arith, nat_tests)
 
 order_complete : (k count : ℕ) (ds : List Def) → AreInOrder k ds count → f.are_in_order k (map definition_head ds) count ≡ true

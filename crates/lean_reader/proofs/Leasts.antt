@@ -1,5 +1,5 @@
 -- The least place of a list, and the lexemes from a place on.
-use Rattle.std.proofs.Common.{◌≡◌, ◌<◌, ◌≤◌, ◌+◌, ◌⊎◌, inl, inr, ℕ, suc, zero, List, [], ◌∷◌, length, drop, take, take_all, get_or, min, ◌-◌, Option, Some, None, refl, sym, subst, ap, ◌∙◌, arith, MatchOption}
+use Rattle.std.proofs.Common.{◌≡◌, ◌<◌, ◌≤◌, ◌+◌, ◌⊎◌, inl, inr, ℕ, suc, List, [], ◌∷◌, length, drop, take, take_all, get_or, min, ◌-◌, Option, Some, None, refl, sym, subst, ap, ◌∙◌, arith, MatchOption}
 use Rattle.std.proofs.lemmas.List.{drop_min}
 use Rattle.std.proofs.lemmas.Bool.{cases_lt}
 use Rattle.text_tokens.specs.declared.lexeme.Lexeme.{Lexeme}
@@ -7,7 +7,6 @@ use Rattle.text_grammar.specs.declared.role.Occurrence.{Occurrence}
 use Rattle.text_grammar.specs.declared.role.Role.{Role}
 use Rattle.text_grammar.specs.declared.role.Role.TheVariants as R
 use Rattle.text_grammar.specs.Derivations.{IsOneOf}
-use Rattle.text_meaning.specs.Lists.{Each}
 use Rattle.lean_reader.specs.declared.outline.Outline.{Outline}
 use Rattle.lean_reader.specs.Breaches.{IsFirst, and_others, breaches}
 use Rattle.lean_reader.specs.Calls.{DefinitionName, definition_name}
@@ -74,9 +73,9 @@ next_goes : (h : Outline) (ls : Tokens) (all : List Occurrence) (c d : Context) 
     place ≡ broken h ls c o → next ≡ lesser found place → d ≡ after ls c o → Goes h ls all c found (o ∷ rest) → Goes h ls all d next rest
 next_goes h ls all c d found next place o rest b n a g =
     let s : least_from next (breaches h ls d rest) ≡ least_from found (breaches h ls c (o ∷ rest)) =
-      ap (λ x. least_from x (breaches h ls d rest)) (n ∙ ap (lesser found) b)
-      ∙ ap (λ x. least_from (lesser found (broken h ls c o)) (breaches h ls x rest)) a
-      ∙ sym (step found (broken h ls c o) (breaches h ls (after ls c o) rest)) in
+    ap (λ x. least_from x (breaches h ls d rest)) (n ∙ ap (lesser found) b)
+    ∙ ap (λ x. least_from (lesser found (broken h ls c o)) (breaches h ls x rest)) a
+    ∙ sym (step found (broken h ls c o) (breaches h ls (after ls c o) rest)) in
     let t : d.types ≤ suc c.types = subst (λ x. x.types ≤ suc c.types) (sym a) (one_type c o.role (drop o.place ls)) in
     let m : d.definitions ≤ suc c.definitions = subst (λ x. x.definitions ≤ suc c.definitions) (sym a) (one_definition c o.role (drop o.place ls)) in
     let u = g.1.0 in

@@ -97,7 +97,7 @@ kind_by_spelled d (Some j) (Some l) None n kd f h = let e : K.Loop (record { 0 =
 kind_by_spelled d (Some j) (Some l) (Some c) n kd f h = let e : K.LoopBack (record { 0 = j }) (record { 0 = l }) c ≡ kd = cc in
     ap (kind_tokens d) (sym e) ∙ ap (λ z. tokens_of_name (definition_name_of z (Some l) (Some c))) (ap or_empty (f j refl))
 
-definition_by : (d : Defs) (f : List ℕ) (t b : Option ℕ) (o : Option DefKind) (p : ℕ × ℕ) → kind_of d.names (definition_name_of f t b) ≡ o → option_and_then (find_kind d.defs) o ≡ Some p →
+pub definition_by : (d : Defs) (f : List ℕ) (t b : Option ℕ) (o : Option DefKind) (p : ℕ × ℕ) → kind_of d.names (definition_name_of f t b) ≡ o → option_and_then (find_kind d.defs) o ≡ Some p →
     (callee_tokens d p.0 ≡ tokens_of_name (definition_name_of f t b)) × (parameters_count d p.0 ≡ Some p.1)
 definition_by d f t b None p q h = absurd cc
 definition_by d f t b (Some kd) p q h =

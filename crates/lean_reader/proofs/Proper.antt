@@ -57,6 +57,12 @@ use Rattle.text_tokens.specs.Stands.{IsProper, is_plain, is_numeral, AllStand, A
 use Rattle.lean_reader.specs.Single as s
 use Rattle.lean_reader.proofs.Numbers.{and_left, and_right, and_true, decimal_digits, digits_not_minus, wide, large_limit, large_depth}
 
+-- of a definition what its tokens' form rests on
+pub record HasCode (d : Defs) (e : Def) : Type 0 where
+  pub kind : IsKind e.kind
+  pub count : length e.params ≤ 2 ^ 32
+  pub code : IsCode d e.code
+
 abbrev pub Proper : List Token → Type 0
 Proper ts = Each IsProper ts
 
@@ -202,7 +208,7 @@ kind_proper d (K.Back f r) h = (refl, (tt, (tt, (tt, (back_proper r.0 h, tt)))))
 kind_proper d (K.Loop f k) h = (refl, (tt, (tt, (tt, (loop_proper k.0 h, tt)))))
 kind_proper d (K.LoopBack f k c) h = (refl, (tt, (tt, (tt, (loop_proper k.0 h.0, (tt, (back_proper c h.1, tt)))))))
 
-callee_in : (d : Defs) (es : List Def) (k : ℕ) → Each (IsDefinition d) es → Proper (def_name_tokens d (slice_get es k))
+callee_in : (d : Defs) (es : List Def) (k : ℕ) → Each (HasCode d) es → Proper (def_name_tokens d (slice_get es k))
 callee_in d [] k h = tt
 callee_in d (e ∷ es) zero h = kind_proper d e.kind h.0.kind
 callee_in d (e ∷ es) (suc k) h = callee_in d es k h.1
@@ -264,21 +270,21 @@ pat_proper d (A.Bool b) h = truth_proper b
 pat_proper d (A.Tuple vs) h = (tt, joined _ _ (comma_vars_proper vs h.1) (tt, tt))
 pat_proper d (A.Ctor c vs) h = joined _ _ (ctor_proper d c) (vars_proper vs h.1)
 
-comp_proper : (d : Defs) → Each (IsDefinition d) d.defs → (c : Comp) → IsComp d c → Proper (comp_tokens d c)
+comp_proper : (d : Defs) → Each (HasCode d) d.defs → (c : Comp) → IsComp d c → Proper (comp_tokens d c)
 comp_proper d g (C.Ok t) h = (refl, term_proper d t h)
 comp_proper d g C.Fail h = (refl, tt)
 comp_proper d g (C.Call f parts) h = joined _ _ (callee_in d d.defs f.0 g) (refl, terms_proper d (terms parts) h.1)
 comp_proper d g (C.Prim p parts) h = joined _ _ (prim_proper p h.0) (terms_proper d (terms parts) h.2)
 
 mutual
-  code_proper : (d : Defs) → Each (IsDefinition d) d.defs → (c : Code) → IsCode d c → Proper (code_tokens d c)
+  code_proper : (d : Defs) → Each (HasCode d) d.defs → (c : Code) → IsCode d c → Proper (code_tokens d c)
   code_proper d g (bind v c rest) h = (refl, (var_proper v h.0, (tt, joined _ _ (comp_proper d g c h.1) (tt, code_proper d g rest h.2))))
   code_proper d g (put v t rest) h = (refl, (var_proper v h.0, (tt, joined _ _ (term_proper d t h.1) (tt, code_proper d g rest h.2))))
   code_proper d g (select t arms) h = (tt, (refl, joined _ _ (term_proper d t h.0) (refl, joined _ _ (arms_proper d g arms h.1) (tt, tt))))
   code_proper d g (last c) h = comp_proper d g c h
   code_proper d g (bind_select v t arms rest) h = absurd h
 
-  arms_proper : (d : Defs) → Each (IsDefinition d) d.defs → (r : Arms) → AreArms d r → Proper (arms_tokens d r)
+  arms_proper : (d : Defs) → Each (HasCode d) d.defs → (r : Arms) → AreArms d r → Proper (arms_tokens d r)
   arms_proper d g no_arms h = tt
   arms_proper d g (more_arms p c r) h = (tt, joined _ _ (pat_proper d p h.0) (tt, (refl, joined _ _ (code_proper d g c h.1) (arms_proper d g r h.2))))
 
@@ -317,7 +323,7 @@ fuel_proper =
 parameters_begin : Proper spelled.fuel_tokens
 parameters_begin = (tt, (refl, (tt, (refl, (tt, tt)))))
 
-definition_proper : (d : Defs) → Each (IsDefinition d) d.defs → (e : Def) → IsDefinition d e → Proper (spelled.definition d e)
+definition_proper : (d : Defs) → Each (HasCode d) d.defs → (e : Def) → HasCode d e → Proper (spelled.definition d e)
 definition_proper d g e h =
     let count = h.count in
     let params = params_proper d e.type_params 0 e.params (omega arith) in
@@ -329,8 +335,8 @@ definition_proper d g e h =
     subst Proper (sym (definition_apart d e)) apart
 
 -- the tokens of a text
-pub tokens_proper : (d : Defs) → IsWellFormed d → Each IsProper (spelled.tokens_of d)
-tokens_proper d h = (
+pub tokens_coded : (d : Defs) → Each (HasCode d) d.defs → Each IsProper (spelled.tokens_of d)
+tokens_coded d h = (
   refl,
   (
     refl,
@@ -339,11 +345,18 @@ tokens_proper d h = (
       (
         refl,
         joined _ _ (all_joined (λ t. Unit {0}) (spelled.type_declaration d) (λ t k. declared_proper d t t.is_struct) d.types (each_any d.types))
-            (all_joined (IsDefinition d) (spelled.definition d) (λ e k. definition_proper d h.definitions e k) d.defs h.definitions),
+            (all_joined (HasCode d) (spelled.definition d) (λ e k. definition_proper d h e k) d.defs h),
       ),
     ),
   ),
 )
+
+definitions_coded : (d : Defs) (es : List Def) → Each (IsDefinition d) es → Each (HasCode d) es
+definitions_coded d [] h = tt
+definitions_coded d (e ∷ es) h = (record { kind = h.0.kind; count = h.0.count; code = h.0.code }, definitions_coded d es h.1)
+
+pub tokens_proper : (d : Defs) → IsWellFormed d → Each IsProper (spelled.tokens_of d)
+tokens_proper d h = tokens_coded d (definitions_coded d d.defs h.definitions)
 
 -- where lexemes are those of a text, they stand for a reading's tokens exactly
 pub reading_lexed : (ls : List Lexeme) (text : List ℕ) (d : Defs) → AreLexemes ls text → IsWellFormed d → Lexed (spelled.tokens_of d) text ↔ AllStand ls (spelled.tokens_of d)

@@ -35,7 +35,7 @@ pub all_complete : {A : Type 0} (P : A → Type 0) (test : A → Bool) → ((x :
 all_complete P test f [] h = refl
 all_complete P test f (x ∷ xs) h = and_true (test x) (list_all test xs) (f x h.0) (all_complete P test f xs h.1)
 
-not_true : (b : Bool) → not b ≡ true → b ≡ false
+pub not_true : (b : Bool) → not b ≡ true → b ≡ false
 not_true true h = absurd cc
 not_true false h = refl
 
@@ -133,7 +133,7 @@ typed : (o : Option PType) (n : ℕ) → option_map (λ (d : PType). length d.pa
 typed None n h = absurd cc
 typed (Some p) n h = (p, refl)
 
-each_mapped : {A B : Type 0} (P : B → Type 0) (f : A → B) (xs : List A) → Each (λ x. P (f x)) xs → Each P (map f xs)
+pub each_mapped : {A B : Type 0} (P : B → Type 0) (f : A → B) (xs : List A) → Each (λ x. P (f x)) xs → Each P (map f xs)
 each_mapped P f [] h = tt
 each_mapped P f (x ∷ xs) h = (h.0, each_mapped P f xs h.1)
 

@@ -11,7 +11,6 @@ use Rattle.text_meaning.specs.Lookups.{Variant}
 use Rattle.text_meaning.specs.Spelled as spelled
 use Rattle.text_meaning.specs.SpelledTypes.{type_tokens}
 use Rattle.text_meaning.specs.Tokens.{Token, word, id, mark}
-use Rattle.text_meaning.specs.WellFormedTypes.{IsDeclaration, IsStructure, AreVariants}
 use Rattle.text_tokens.specs.Stands.{AllStand}
 use Rattle.lean_reader.specs.declared.outline.Outline.{Outline}
 use Rattle.lean_reader.specs.declared.outline.TypeHead.{TypeHead}
@@ -21,6 +20,7 @@ use Rattle.lean_reader.specs.Outlines.{variant_head, type_head}
 use Rattle.lean_reader.specs.Outlining as o
 use Rattle.lean_reader.specs.Parser.{Tokens, tail}
 use Rattle.lean_reader.specs.Signs as g
+use Rattle.lean_reader.proofs.Declared.{HasShape}
 use Rattle.lean_reader.proofs.Numbers.{and_left, and_right}
 use Rattle.lean_reader.proofs.Signing.{token_sign, tally, tally_append, tally_none, tally_begins, count_stands, no_sign, no_signs, other_is, all_append, type_no_signs, ids_no_signs, parameters_tally, fields_tally, arrows_tally, Begins}
 use Rattle.lean_reader.proofs.Silence.{silent, silent_append, silent_flat, type_silent}
@@ -56,6 +56,10 @@ structure_sign = refl
 inductive_sign : token_sign (word (codes "inductive")) ≡ S.Inductive
 unfolding g.word_sign
 inductive_sign = refl
+
+-- a type whose variants have its shape
+abbrev pub IsShaped : PType → Type 0
+IsShaped t = HasShape t.is_struct t.variants
 
 module _ (d : Defs) where
   -- the lexemes of a type after its keyword, with these after `where`
@@ -130,13 +134,13 @@ module _ (d : Defs) where
   IsHead t true ls = o.structure_at ls ≡ type_head t
   IsHead t false ls = o.inductive_at ls ≡ type_head t
 
-  structure_by : (t : PType) (vs : List Variant) (us : List Token) (ls : Tokens) → t.variants ≡ vs → IsStructure vs → Begins us → AllStand ls (heading t (spelled.structure_fields d t vs ++ us)) → o.structure_at ls ≡ type_head t
+  structure_by : (t : PType) (vs : List Variant) (us : List Token) (ls : Tokens) → t.variants ≡ vs → HasShape true vs → Begins us → AllStand ls (heading t (spelled.structure_fields d t vs ++ us)) → o.structure_at ls ≡ type_head t
   structure_by t [] us ls e k b h = absurd k
   structure_by t (v ∷ []) us ls e k b h =
       let n = first_name_is t.name _ ls h in
       let p = parameters_are t _ ls h in
       let c = fields_are t v us ls b h in
-      (λ i. record { name = n i; parameters = p i; variants = record { name = sym k.0 i; fields = c i } ∷ [] }) ∙ (λ i. record { name = t.name; parameters = length t.params; variants = map variant_head (sym e i) })
+      (λ i. record { name = n i; parameters = p i; variants = record { name = sym k i; fields = c i } ∷ [] }) ∙ (λ i. record { name = t.name; parameters = length t.params; variants = map variant_head (sym e i) })
   structure_by t (v ∷ w ∷ vs) us ls e k b h = absurd k
 
   inductive_is : (t : PType) (us : List Token) (ls : Tokens) → Begins us → AllStand ls (heading t (flat_map (spelled.variant_tokens d t) t.variants ++ us)) → o.inductive_at ls ≡ type_head t
@@ -176,7 +180,7 @@ module _ (d : Defs) where
   skipped : (ls mid : Tokens) (h after : Outline) (us : List Token) → o.outlined_after ls h ≡ o.outlined_after mid after → Skipped (λ ls. o.outlined_after ls after) mid us → Outlined ls h after us
   skipped ls mid h after us e s = record { rest = s.rest; stand = s.stand; same = e ∙ s.same }
 
-  type_outlined_by : (t : PType) (b : Bool) (h : Outline) (us : List Token) (ls : Tokens) → AreVariants b t.variants → Begins us → AllStand ls (spelled.declared_tokens d t b ++ us) →
+  type_outlined_by : (t : PType) (b : Bool) (h : Outline) (us : List Token) (ls : Tokens) → HasShape b t.variants → Begins us → AllStand ls (spelled.declared_tokens d t b ++ us) →
       Outlined ls h (o.with_type h (type_head t)) us
   type_outlined_by t true h us ls g b stand =
       let fields = spelled.structure_fields d t t.variants in
@@ -209,7 +213,7 @@ module _ (d : Defs) where
   types_begin [] us b = b
   types_begin (t ∷ ts) us b = subst Begins (sym (append_assoc (spelled.type_declaration d t) (flat_map (spelled.type_declaration d) ts) us)) (type_begins t t.is_struct (flat_map (spelled.type_declaration d) ts ++ us))
 
-  pub types_outlined : (ts : List PType) (h : Outline) (us : List Token) (ls : Tokens) → Each (IsDeclaration d) ts → Begins us → AllStand ls (flat_map (spelled.type_declaration d) ts ++ us) →
+  pub types_outlined : (ts : List PType) (h : Outline) (us : List Token) (ls : Tokens) → Each IsShaped ts → Begins us → AllStand ls (flat_map (spelled.type_declaration d) ts ++ us) →
       Outlined ls h (with_types h (map type_head ts)) us
   types_outlined [] h us ls g b stand = record {
     rest = ls;
@@ -219,7 +223,7 @@ module _ (d : Defs) where
   types_outlined (t ∷ ts) h us ls g b stand =
       let after = flat_map (spelled.type_declaration d) ts ++ us in
       let l = stand_same ls _ (spelled.type_declaration d t ++ after) (append_assoc (spelled.type_declaration d t) (flat_map (spelled.type_declaration d) ts) us) stand in
-      let r = type_outlined_by t t.is_struct h after ls g.0.variants (types_begin ts us b) l in
+      let r = type_outlined_by t t.is_struct h after ls g.0 (types_begin ts us b) l in
       let s = types_outlined ts (o.with_type h (type_head t)) us r.rest g.1 b r.stand in
       record {
         rest = s.rest;

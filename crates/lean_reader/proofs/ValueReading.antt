@@ -1,8 +1,10 @@
 -- A word is read as the value that it is, and a piece as the type that it is.
-use Rattle.std.proofs.Common.{◌≡◌, refl, ap, sym, ◌∙◌, subst, ℕ, suc, ◌-◌, Bool, true, false, ◌&&◌, List, [], ◌∷◌, ◌++◌, append-nil, Option, Some, None, arith}
+use Rattle.std.proofs.Common.{◌≡◌, refl, ap, sym, ◌∙◌, subst, ℕ, suc, ◌-◌, Bool, true, false, ◌&&◌, List, [], ◌∷◌, ◌++◌, append-nil, Option, Some, None, ◌⊎◌, inl, inr, arith}
 use Rattle.std.specs.Prelude.{if◌then◌else◌, nat_lt, MatchOption, Result, IfOk, is_some}
 use Rattle.std.specs.Option.{option_and_then}
+use Rattle.std.proofs.lemmas.Option.{same_Some}
 use denote.Enum.Bare.{sameb}
+use Rattle.aen_base.specs.declared.span.Span.{Span}
 use Rattle.pure_ast.specs.declared.def.Defs.{Defs}
 use Rattle.pure_ast.specs.Types.{PTy}
 use Rattle.pure_ast.specs.Values.{PValue}
@@ -16,6 +18,8 @@ use Rattle.text_meaning.specs.ValueTerms.{value_term}
 use Rattle.text_meaning.specs.WellFormedTerms.{IsTerm}
 use Rattle.text_tokens.specs.declared.lexeme.LexemeKind.{LexemeKind}
 use Rattle.text_tokens.specs.declared.lexeme.LexemeKind.TheVariants as K
+use Rattle.text_tokens.specs.Scan.{cut_text}
+use Rattle.text_tokens.proofs.Exact.{lexemes_exact, lexemes_none}
 use Rattle.text_tokens.specs.Stands.{Stands, AllStand, AreLexemes, HasNoTokens}
 use Rattle.lean_reader.specs.Environment.{Environment}
 use Rattle.lean_reader.specs.Parser.{Tokens}
@@ -117,6 +121,9 @@ module _ (d : Defs) (e : Environment) (agree : Agrees e d) (ls : Tokens) (text :
       let all : whole (atom e ls) ≡ Some (value_term v) = ap whole r.is ∙ ap (λ x. whole (Some (value_term v, x))) left in
       rw few (rw all (rw (closed_found v) (rw (type_found d ty v w.type) refl)))
 
+  value_once : (ty : PTy) (v w : PValue) → IsWord d ty text v → IsWord d ty text w → v ≡ w
+  value_once ty v w a b = same_Some v w (sym (value_complete ty v a) ∙ value_complete ty w b)
+
   value_by : (ty : PTy) (o : Option PValue) → value_of d e ty ls ≡ o → MatchOption o ((v : PValue) → IsWord d ty text v → ⊥) (λ v. IsWord d ty text v)
   value_by ty None h = λ v w. let k = value_complete ty v w in absurd cc
   value_by ty (Some v) h = value_sound ty v h
@@ -148,6 +155,9 @@ module _ (d : Defs) (e : Environment) (agree : Agrees e d) (ls : Tokens) (text :
       let all : whole (type e (place_of []) ls) ≡ Some t = ap whole r.is ∙ ap (λ x. whole (Some (t, x))) left in
       rw few (rw all refl)
 
+  piece_once : (t u : PTy) → IsPiece d text t → IsPiece d text u → t ≡ u
+  piece_once t u a b = same_Some t u (sym (piece_complete t a) ∙ piece_complete u b)
+
   piece_by : (o : Option PTy) → type_of e ls ≡ o → MatchOption o ((t : PTy) → IsPiece d text t → ⊥) (λ t. IsPiece d text t)
   piece_by None h = λ t w. let k = piece_complete t w in absurd cc
   piece_by (Some t) h = piece_sound t h
@@ -161,6 +171,29 @@ no_word d ty text h v w = h (term_tokens d (value_term v)) (term_proper d (value
 
 pub no_piece : (d : Defs) (text : List ℕ) → HasNoTokens text → (t : PTy) → IsPiece d text t → ⊥
 no_piece d text h t w = h (type_tokens d [] t) (type_proper d [] t) w.tokens
+
+-- a text is one value of a type at most, and one type
+module _ (d : Defs) (formed : IsWellFormed d) (text : List ℕ) where
+  lexed_by : (o : Option Span) → (cut_text text).fault ≡ o → AreLexemes (cut_text text).list text ⊎ HasNoTokens text
+  lexed_by None e = inl (lexemes_exact text (cut_text text) refl e)
+  lexed_by (Some s) e = inr (lexemes_none text (cut_text text) refl (λ n. let k : None ≡ Some s = sym n ∙ e in absurd cc))
+
+  lexed : AreLexemes (cut_text text).list text ⊎ HasNoTokens text
+  lexed = lexed_by (cut_text text).fault refl
+
+  pub word_once : (ty : PTy) (v w : PValue) → IsWord d ty text v → IsWord d ty text w → v ≡ w
+  word_once ty v w a b = by lexed
+    where
+      by : AreLexemes (cut_text text).list text ⊎ HasNoTokens text → v ≡ w
+      by (inl are) = value_once d (environment (outline_of d)) (outline_agrees d formed) (cut_text text).list text are ty v w a b
+      by (inr none) = absurd (no_word d ty text none v a)
+
+  pub type_once : (t u : PTy) → IsPiece d text t → IsPiece d text u → t ≡ u
+  type_once t u a b = by lexed
+    where
+      by : AreLexemes (cut_text text).list text ⊎ HasNoTokens text → t ≡ u
+      by (inl are) = piece_once d (environment (outline_of d)) (outline_agrees d formed) (cut_text text).list text are t u a b
+      by (inr none) = absurd (no_piece d text none t a)
 
 pub some_fault : {A : Type 0} (o : Option A) → true ≡ is_some o → o ≡ None → ⊥
 some_fault None h e = absurd cc

@@ -5,6 +5,7 @@ use Rattle.text_tokens.specs.declared.lexeme.Lexeme.{Lexeme}
 use Rattle.text_tokens.specs.declared.lexeme.Lexemes.{Lexemes}
 use Rattle.text_tokens.specs.Scan.{cut_text, span}
 use Rattle.text_grammar.specs.Derivations.{IsGrammatical, IsViable, IsGrammarFault}
+use Rattle.lean_reader.specs.Breaches.{IsRuleFault, KeepsRules}
 
 -- a lexeme stands there
 pub record IsSpanOf (ls : List Lexeme) (k : ℕ) (place : Span) : Type 0 where
@@ -29,13 +30,31 @@ pub record IsAtEnd (text : List ℕ) (l : Lexemes) (place : Span) : Type 0 where
   pub fault : IsGrammarFault l.list (length l.list)
   pub empty : place ≡ span (length text) (length text)
 
--- the tokens are a text of the grammar: another rule is broken, and where isn't said here
-pub record IsAtRule (l : Lexemes) (place : Span) : Type 0 where
+-- the first lexeme at which a rule beside the grammar is broken
+pub record IsAtBreach (ls : List Lexeme) (place : Span) : Type 0 where
+  pub number : ℕ
+  pub fault : IsRuleFault ls number
+  pub span : IsSpanOf ls number place
+
+-- no rule is broken, and the place is this end
+pub record IsAtNoBreach (ls : List Lexeme) (end place : Span) : Type 0 where
+  pub keeps : KeepsRules ls
+  pub same : place ≡ end
+
+abbrev pub IsAtBreachOr : List Lexeme → Span → Span → Type 0
+IsAtBreachOr ls end place = IsAtBreach ls place ⊎ IsAtNoBreach ls end place
+
+abbrev pub IsAtBrokenRule : List ℕ → Lexemes → Span → Type 0
+IsAtBrokenRule text l place = IsAtBreachOr l.list (span (length text) (length text)) place
+
+-- the tokens are a text of the grammar, and another rule is broken
+pub record IsAtRule (text : List ℕ) (l : Lexemes) (place : Span) : Type 0 where
   pub whole : l.fault ≡ None
   pub grammatical : IsGrammatical l.list
+  pub at : IsAtBrokenRule text l place
 
 abbrev pub IsPlaceIn : List ℕ → Lexemes → Span → Type 0
-IsPlaceIn text l place = IsAtLexeme l place ⊎ (IsAtCharacter l place ⊎ (IsAtEnd text l place ⊎ IsAtRule l place))
+IsPlaceIn text l place = IsAtLexeme l place ⊎ (IsAtCharacter l place ⊎ (IsAtEnd text l place ⊎ IsAtRule text l place))
 
 abbrev pub IsFaultPlace : List ℕ → Span → Type 0
 IsFaultPlace text place = IsPlaceIn text (cut_text text) place

@@ -1,5 +1,5 @@
 -- The rules beside the grammar, by what each name and number is there for (TEXT.md, "Faults").
-use Rattle.std.specs.Prelude.{ℕ, suc, ◌+◌, ◌-◌, ◌==◌, ◌&&◌, ◌||◌, not, nat_lt, Bool, true, false, if◌then◌else◌, List, length, drop, Option, Some, None, is_some, codes, bytes_eq, slice_get}
+use Rattle.std.specs.Prelude.{ℕ, suc, ◌+◌, ◌-◌, ◌==◌, ◌&&◌, ◌||◌, not, nat_lt, Bool, true, false, if◌then◌else◌, List, [], ◌∷◌, length, drop, Option, Some, None, is_some, codes, bytes_eq, slice_get}
 use Rattle.pure_ast.specs.declared.ctor.CtorId.{CtorId}
 use Rattle.pure_ast.specs.declared.comp.Primitive.{Primitive}
 use Rattle.text_meaning.specs.Ranges.{arity}
@@ -7,12 +7,14 @@ use Rattle.text_grammar.specs.declared.role.Occurrence.{Occurrence}
 use Rattle.text_grammar.specs.declared.role.Role.{Role}
 use Rattle.text_grammar.specs.declared.role.Role.TheVariants as R
 use Rattle.lean_reader.specs.declared.outline.Outline.{Outline}
+use Rattle.lean_reader.specs.declared.signs.Sign.TheVariants as S
 use Rattle.lean_reader.specs.Calls.{DefinitionName, definition_name, first_numbered}
 use Rattle.lean_reader.specs.Outlines.{type_of, constructor_of, definition_of}
 use Rattle.lean_reader.specs.Outlining.{first_name}
 use Rattle.lean_reader.specs.Parser.{Tokens, tail}
 use Rattle.lean_reader.specs.Primitives.{primitive}
 use Rattle.lean_reader.specs.RuleContext.{Context}
+use Rattle.lean_reader.specs.Signs.{lexeme_sign, same_sign}
 use Rattle.lean_reader.specs.Single.{starts_word, typed, first_digits}
 use Rattle.lean_reader.specs.Tests.{place_of}
 
@@ -99,9 +101,15 @@ abbrev pub by_primitive : Tokens → Option (Primitive × Tokens) → ℕ → Op
 by_primitive ls None count = None
 by_primitive ls (Some p) count = unless (arity p.0 == count) (last_place ls p.1)
 
+-- the functions that definitions are named after, also where a number in the name is none
+abbrev pub bearers : Tokens → List (List ℕ)
+bearers [] = []
+bearers (l ∷ ls) = if same_sign (lexeme_sign l) S.Definition then first_name (drop 2 ls) ∷ bearers ls else bearers ls
+
+-- a definition or a primitive that is used
 abbrev pub call : Outline → Tokens → Tokens → Tokens → ℕ → ℕ → Option ℕ
 call h ls ts name count place =
-    if starts_word (codes "fn") ts then by_function (place_of h.functions (first_name name)) h ls ts count place
+    if starts_word (codes "fn") ts then by_function (place_of (bearers ls) (first_name name)) h ls ts count place
     else by_primitive ls (primitive ts) count
 
 -- a definition is declared once

@@ -2,7 +2,8 @@
 
 ghost use Rattle.std.specs.Prelude.{◌≡◌, ◌<◌, ◌^◌, All, List, ℕ, Some, length, map, slice_get, string_len, IfOk, MatchOption};
 ghost use Rattle.std.specs.String.{string_bytes};
-ghost use Rattle.pure_ast.specs.Types as types;
+ghost use Rattle.pure_ast.specs.Types.{PTy};
+ghost use Rattle.pure_ast.specs.Values.{PValue};
 ghost use Rattle.pure_ast.specs.declared.def.Def.{Def};
 ghost use Rattle.text_meaning.specs.WellFormed.{IsWellFormed};
 ghost use Rattle.lean_reader.specs.Outlines as outlines;
@@ -45,7 +46,8 @@ impl From<NoMem> for WordFault {
 /// type parameters. `Types` comes exactly where the pieces are not as many as the type parameters,
 /// or one is no type without type parameters; `WrongCount(E, F)` exactly where that is not so, and F
 /// words stand for E parameters; `BadValue(I)` exactly where neither is so, and word I is the first
-/// that is no value of its parameter's type.
+/// that is no value of its parameter's type. A word is one value of a type at most, and a piece one
+/// type.
 pub fn read_args(
     alloc: Global,
     defs: &Defs,
@@ -57,7 +59,9 @@ pub fn read_args(
     requires known { def.0 < length defs.now.defs }
     requires short_types { All (λ w. string_len w < 2 ^ 32) types.now }
     requires short_words { All (λ w. string_len w < 2 ^ 32) words.now }
-    ensures { (d : Def) → slice_get defs.now.defs def.0 ≡ Some d → spec.IsReadingAt defs.now d (map string_bytes types.now) (map string_bytes words.now) result }
+    ensures reading { (d : Def) → slice_get defs.now.defs def.0 ≡ Some d → spec.IsReadingAt defs.now d (map string_bytes types.now) (map string_bytes words.now) result }
+    ensures one_value { (ty : PTy) (word : List ℕ) (v w : PValue) → spec.IsWord defs.now ty word v → spec.IsWord defs.now ty word w → v ≡ w }
+    ensures one_type { (piece : List ℕ) (t u : PTy) → spec.IsPiece defs.now piece t → spec.IsPiece defs.now piece u → t ≡ u }
 {
     match at(defs.defs.as_slice(), def.0 as usize) {
         Some(definition) => read_all(alloc, defs, definition, types, words),
@@ -99,7 +103,7 @@ fn type_arguments(
     requires well_formed { IsWellFormed defs.now }
     requires own { tables.now ≡ outlines.outline_of defs.now }
     requires short { All (λ w. string_len w < 2 ^ 32) pieces.now }
-    ensures { IfOk result (λ o. MatchOption o ((args : List types.PTy) → spec.AreTypeArguments defs.now definition.now (map string_bytes pieces.now) args → ⊥) (λ args. spec.AreTypeArguments defs.now definition.now (map string_bytes pieces.now) args)) }
+    ensures { IfOk result (λ o. MatchOption o ((args : List PTy) → spec.AreTypeArguments defs.now definition.now (map string_bytes pieces.now) args → ⊥) (λ args. spec.AreTypeArguments defs.now definition.now (map string_bytes pieces.now) args)) }
 {
     if pieces.len() != definition.type_params.len() {
         return Ok(None);
@@ -117,7 +121,7 @@ fn read_pieces(
     requires well_formed { IsWellFormed defs.now }
     requires own { tables.now ≡ outlines.outline_of defs.now }
     requires short { All (λ w. string_len w < 2 ^ 32) pieces.now }
-    ensures { IfOk result (λ o. MatchOption o ((args : List types.PTy) → spec.ArePieces defs.now (map string_bytes pieces.now) args → ⊥) (λ args. spec.ArePieces defs.now (map string_bytes pieces.now) args)) }
+    ensures { IfOk result (λ o. MatchOption o ((args : List PTy) → spec.ArePieces defs.now (map string_bytes pieces.now) args → ⊥) (λ args. spec.ArePieces defs.now (map string_bytes pieces.now) args)) }
 {
     let mut args = List::new(alloc);
     for piece in pieces {

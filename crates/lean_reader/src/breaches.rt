@@ -6,7 +6,8 @@ ghost use Rattle.lean_reader.specs.Least as least;
 ghost use Rattle.lean_reader.specs.RuleContext as contexts;
 ghost use Rattle.lean_reader.specs.Rules as rules;
 
-use crate::name_rules::{call, constructor, definition};
+use crate::by_name::ByName;
+use crate::name_rules::{bearers, call, constructor, definition};
 use crate::rule_context::{Context, first_name};
 use crate::rules::{
     from, member, number, numbered, parameter, same_parameter, type_declaration, type_name,
@@ -22,12 +23,14 @@ use text_tokens::Lexeme;
 fn broken(
     alloc: Global,
     tables: &Tables,
+    functions: &ByName<Name>,
     tokens: &[Lexeme],
     context: &Context,
     empty: &Name,
     occurrence: Occurrence,
 ) -> Result<Option<usize>, NoMem>
-    requires { empty.now ≡ [] }
+    requires empty { empty.now ≡ [] }
+    requires functions { functions.now ≡ rules.bearers tokens.now }
     ensures { IfOk result (λ b. b ≡ rules.broken tables.now tokens.now context.now occurrence) }
 {
     let Occurrence { role, place, count } = occurrence;
@@ -54,7 +57,7 @@ fn broken(
         }
         Role::Call => {
             let second = from(tokens, at + 2);
-            Ok(call(alloc, tables, tokens, empty, here, second, count, place)?)
+            Ok(call(alloc, tables, functions, tokens, empty, here, second, count, place)?)
         }
     }
 }
@@ -81,11 +84,12 @@ pub(crate) fn first_breach(
     ensures { IfOk result (λ o. MatchOption o (spec.breaches tables.now tokens.now contexts.nothing_yet occurrences.now ≡ []) (spec.IsFirst (spec.breaches tables.now tokens.now contexts.nothing_yet occurrences.now))) }
 {
     let empty = Name::from_str(alloc, "")?;
+    let functions = bearers(alloc, &empty, tokens)?;
     let mut context = Context::nothing_yet(alloc)?;
     let mut found = None;
     let mut left = occurrences;
     while let [first, rest @ ..] = left {
-        let place = broken(alloc, tables, tokens, &context, &empty, *first)?;
+        let place = broken(alloc, tables, &functions, tokens, &context, &empty, *first)?;
         found = lesser(found, place);
         let here = from(tokens, first.place as usize);
         context = context.with(alloc, first.role, &empty, here)?;

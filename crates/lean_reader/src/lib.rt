@@ -42,12 +42,7 @@ mod read;
 mod repetitions;
 #[cfg(test)]
 mod round_trip_tests;
-mod rule_code;
 mod rule_context;
-mod rule_cursor;
-mod rule_heads;
-mod rule_terms;
-mod rule_types;
 mod rules;
 mod signs;
 mod spelled;

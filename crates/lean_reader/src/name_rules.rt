@@ -5,31 +5,30 @@ ghost use Rattle.lean_reader.specs.Calls.{definition_name};
 ghost use Rattle.lean_reader.specs.Outlines as outlines;
 ghost use Rattle.lean_reader.specs.Primitives.{primitive};
 ghost use Rattle.lean_reader.specs.Rules as spec;
-ghost use Rattle.lean_reader.specs.Tests as tests;
 
 use crate::ReadFault;
+use crate::by_name::ByName;
 use crate::computations::arity;
 use crate::cursor::Reader;
 use crate::rule_context::{Context, first_name};
-use crate::rules::{has_parts, last_place, unless};
+use crate::rules::{from, has_parts, last_place, unless};
+use crate::signs::Sign;
 use crate::tables::Tables;
-use aen_base::{Name, NoMem};
+use aen_base::{List, Name, NoMem};
 use std::alloc::Global;
 use text_tokens::Lexeme;
 
 /// A type has a variant of this name with so many parts, where the type is declared.
-fn variant_of(
-    tables: &Tables,
-    ty: &Name,
-    variant: &Name,
-    count: u32,
-    place: u32,
-) -> Option<usize>
+fn variant_of(tables: &Tables, ty: &Name, variant: &Name, count: u32, place: u32) -> Option<usize>
     ensures { result ≡ spec.variant_of (outlines.type_of tables.now ty.now) (outlines.constructor_of tables.now ty.now variant.now) count place }
 {
     match tables.type_of(ty) {
         None => Some(place as usize),
-        Some(_) => has_parts(tables.constructor_of(ty, variant), count, place as usize + 2),
+        Some(_) => has_parts(
+            tables.constructor_of(ty, variant),
+            count,
+            place as usize + 2,
+        ),
     }
 }
 
@@ -82,13 +81,13 @@ fn by_function(
     tables: &Tables,
     tokens: &[Lexeme],
     here: &[Lexeme],
-    function: &Name,
+    bearer: Option<u32>,
     count: u32,
     place: u32,
 ) -> Result<Option<usize>, NoMem>
-    ensures { IfOk result (λ b. b ≡ spec.by_function (tests.place_of tables.now.functions function.now) tables.now tokens.now here.now count place) }
+    ensures { IfOk result (λ b. b ≡ spec.by_function bearer tables.now tokens.now here.now count place) }
 {
-    match tables.function_of(function) {
+    match bearer {
         None => Ok(Some(place as usize + 2)),
         Some(_) => Ok(by_name(alloc, tables, tokens, here, count)?),
     }
@@ -114,10 +113,33 @@ fn by_primitive(
     }
 }
 
+/// The functions that definitions are named after, also where a number in the name is none. The only
+/// error is want of memory.
+pub(crate) fn bearers(
+    alloc: Global,
+    empty: &Name,
+    tokens: &[Lexeme],
+) -> Result<ByName<Name>, NoMem>
+    requires { empty.now ≡ [] }
+    ensures { IfOk result (λ fs. fs ≡ spec.bearers tokens.now) }
+{
+    let mut found = List::new(alloc);
+    let mut left = tokens;
+    while let [first, rest @ ..] = left {
+        if Sign::of(&first.kind) == Sign::Definition {
+            let name = first_name(empty, from(rest, 2));
+            found.push(name.try_clone(alloc)?)?;
+        }
+        left = rest;
+    }
+    Ok(ByName::new(alloc, found)?)
+}
+
 /// A definition or a primitive is declared, and has so many parts.
 pub(crate) fn call(
     alloc: Global,
     tables: &Tables,
+    bearers: &ByName<Name>,
     tokens: &[Lexeme],
     empty: &Name,
     here: &[Lexeme],
@@ -125,13 +147,14 @@ pub(crate) fn call(
     count: u32,
     place: u32,
 ) -> Result<Option<usize>, NoMem>
-    requires { empty.now ≡ [] }
+    requires empty { empty.now ≡ [] }
+    requires bearers { bearers.now ≡ spec.bearers tokens.now }
     ensures { IfOk result (λ b. b ≡ spec.call tables.now tokens.now here.now name.now count place) }
 {
     let reader = Reader { tokens: here };
     if reader.starts_word("fn") {
-        let function = first_name(empty, name);
-        Ok(by_function(alloc, tables, tokens, here, function, count, place)?)
+        let bearer = bearers.place_of(first_name(empty, name));
+        Ok(by_function(alloc, tables, tokens, here, bearer, count, place)?)
     } else {
         Ok(by_primitive(alloc, tokens, here, count)?)
     }

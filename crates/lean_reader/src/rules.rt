@@ -47,10 +47,7 @@ fn is_type(tables: &Tables, count: usize, name: &Name) -> bool
 pub(crate) fn last_place(tokens: &[Lexeme], rest: &[Lexeme]) -> usize
     ensures { result ≡ spec.last_place tokens.now rest.now }
 {
-    tokens
-        .len()
-        .saturating_sub(rest.len())
-        .saturating_sub(1)
+    tokens.len().saturating_sub(rest.len()).saturating_sub(1)
 }
 
 /// A declared thing has so many parts.
@@ -101,12 +98,7 @@ pub(crate) fn member(context: &Context, name: &Name, place: usize) -> Option<usi
 }
 
 /// A variant ends with its type's name and as many names as the type has parameters.
-pub(crate) fn variant_end(
-    context: &Context,
-    name: &Name,
-    count: u32,
-    place: usize,
-) -> Option<usize>
+pub(crate) fn variant_end(context: &Context, name: &Name, count: u32, place: usize) -> Option<usize>
     ensures { result ≡ spec.variant_end context.now name.now count place }
 {
     let is_whole = count as usize == context.parameters.as_slice().len();

@@ -17,3 +17,4 @@ pub mod Erasing
 pub mod NotingSteps
 pub mod Noted
 pub mod NotedWhole
+pub mod Within

@@ -6,3 +6,4 @@ pub mod Laws
 pub mod Attributes
 pub mod Occurrences
 pub mod Noting
+pub mod Extents

@@ -1,8 +1,9 @@
 //! Notes the names, variables and numbers of a text of the grammar, on a stack of the symbols that are
 //! to come.
 
-ghost use Rattle.std.specs.Prelude.{◌≡◌, ◌++◌, map, reverse, IfOk, OnOk, MatchOption};
+ghost use Rattle.std.specs.Prelude.{◌≡◌, ◌++◌, map, reverse, IfOk, OnOk, MatchOption, ⊤};
 ghost use Rattle.text_grammar.specs.Derivations.{IsGrammatical};
+ghost use Rattle.text_grammar.specs.Extents.{StandIn};
 ghost use Rattle.text_grammar.specs.Noting as spec;
 ghost use Rattle.text_grammar.specs.Occurrences as occurrences;
 
@@ -17,9 +18,11 @@ use std::alloc::Global;
 use text_tokens::{Lexeme, LexemeKind};
 
 /// The names, variables and numbers that occur in a text of the grammar; None exactly where the
-/// lexemes are no text of the grammar. The only error is want of memory.
+/// lexemes are no text of the grammar. Each has its lexemes in the text. The only error is want of
+/// memory.
 pub fn occurrences(alloc: Global, lexemes: &[Lexeme]) -> Result<Option<List<Occurrence>>, NoMem>
-    ensures { IfOk result (λ o. MatchOption o (IsGrammatical lexemes.now → ⊥) (λ os. occurrences.AreExactly lexemes.now os)) }
+    ensures exact { IfOk result (λ o. MatchOption o (IsGrammatical lexemes.now → ⊥) (λ os. occurrences.AreExactly lexemes.now os)) }
+    ensures within { IfOk result (λ o. MatchOption o ⊤ (λ os. StandIn lexemes.now os)) }
 {
     let found = occurring(alloc, lexemes)?;
     Ok(found)

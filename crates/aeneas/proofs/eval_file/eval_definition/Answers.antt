@@ -15,7 +15,7 @@ returns-in_ok-eval-in-Ok c =
     let words = map string_bytes c.args.values.now in
     let answer = c.in_ok-eval-in-Ok.ensures.answer ∙ ap (λ values. evaluate defs c.args.def.0 values c.args.fuel) c.as_slice.ensures in
     IfOk-weaker c.answer_reply.result (λ r. AnswerReply defs c.in_ok-eval-in-Ok.field-0 r.status r.text) (λ r. EvaluationReply defs c.args.def.0 pieces words c.args.fuel r.status r.text)
-    (λ r h. answered defs c.args.def.0 found.0 found.1 pieces words c.args.fuel r.status r.text c.in-Ok.args (c.in-Ok.ensures found.0 found.1) (subst (λ a. AnswerReply defs a r.status r.text) answer h))
+    (λ r h. answered defs c.args.def.0 found.0 found.1 pieces words c.args.fuel r.status r.text c.in-Ok.args (c.in-Ok.ensures.reading found.0 found.1) (subst (λ a. AnswerReply defs a r.status r.text) answer h))
     c.answer_reply.ensures
 
 pub returns-in-Err : goal.returns-in-Err
@@ -25,5 +25,5 @@ returns-in-Err c =
     let pieces = map string_bytes c.args.types.now in
     let words = map string_bytes c.args.values.now in
     IfOk-weaker c.word_fault_reply.result (λ r. WordFaultReply c.in-Err.fault r.status r.text) (λ r. EvaluationReply defs c.args.def.0 pieces words c.args.fuel r.status r.text)
-    (λ r h. refused defs c.args.def.0 found.0 found.1 pieces words c.args.fuel r.status r.text c.in-Err.fault (c.in-Err.ensures found.0 found.1) h)
+    (λ r h. refused defs c.args.def.0 found.0 found.1 pieces words c.args.fuel r.status r.text c.in-Err.fault (c.in-Err.ensures.reading found.0 found.1) h)
     c.word_fault_reply.ensures
