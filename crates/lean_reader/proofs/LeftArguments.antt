@@ -113,32 +113,36 @@ module _ (h : Outline) (all : Tokens) where
       let one_more : Count = record { start = a.start; parts = suc a.parts } in
       let v = more_at t.0.place one_more rest t.0.mid c (omega (arith, e1, small)) (omega (arith, e1, less)) t.0.left in
       let e2 = v.0.shorter in
-      let count : suc a.parts + length (ptys_list v.0.item) ≡ a.parts + suc (length (ptys_list v.0.item)) = omega arith in
-      (record {
-        item = more_ptys t.0.item v.0.item;
-        mid = v.0.mid;
-        place = v.0.place;
-        reads = λ d s. reads_same ls v.0.mid _ _
-            (sym (append_assoc (type_tokens d c.parameters t.0.item) (types_tokens d c.parameters v.0.item) (mark M.Close ∷ [])))
-            (reads_join ls t.0.mid v.0.mid _ _ (t.0.reads d s) (v.0.reads d s));
-        good = λ d s. (t.0.good d s, v.0.good d s);
-        left = v.0.left;
-        shorter = omega (arith, e1, e2);
-      }, subst (λ (j : ℕ). broken h all c (occurrence R.TypeName a.start j) ≡ None) count v.1)
+      let count : suc a.parts + length (ptys_list v.0.item) ≡ a.parts + suc (length (ptys_list v.0.item)) = omega arith in (
+        record {
+          item = more_ptys t.0.item v.0.item;
+          mid = v.0.mid;
+          place = v.0.place;
+          reads = λ d s. reads_same ls v.0.mid _ _
+              (sym (append_assoc (type_tokens d c.parameters t.0.item) (types_tokens d c.parameters v.0.item) (mark M.Close ∷ [])))
+              (reads_join ls t.0.mid v.0.mid _ _ (t.0.reads d s) (v.0.reads d s));
+          good = λ d s. (t.0.good d s, v.0.good d s);
+          left = v.0.left;
+          shorter = omega (arith, e1, e2);
+        },
+        subst (λ (j : ℕ). broken h all c (occurrence R.TypeName a.start j) ≡ None) count v.1,
+      )
   argument_first m n ty more_at k a p rest ls c small less (inr (inl e)) kept x =
       let y = taken h all k a rest ls c p (closing R.TypeName (T.CloseBracket ▸ [])) e kept x in
       let z = mark_next h all M.Close T.CloseBracket k a.parts rest ls c refl y.1 in
       let e1 = z.less in
-      let count : a.parts ≡ a.parts + 0 = omega arith in
-      (record {
-        item = no_ptys;
-        mid = z.others;
-        place = suc k;
-        reads = λ d s. z.read z.others [] (nothing z.others);
-        good = λ d s. tt;
-        left = z.left;
-        shorter = omega (arith, e1);
-      }, subst (λ (j : ℕ). broken h all c (occurrence R.TypeName a.start j) ≡ None) count y.0.0)
+      let count : a.parts ≡ a.parts + 0 = omega arith in (
+        record {
+          item = no_ptys;
+          mid = z.others;
+          place = suc k;
+          reads = λ d s. z.read z.others [] (nothing z.others);
+          good = λ d s. tt;
+          left = z.left;
+          shorter = omega (arith, e1);
+        },
+        subst (λ (j : ℕ). broken h all c (occurrence R.TypeName a.start j) ≡ None) count y.0.0,
+      )
   argument_first m n ty more_at k a p rest ls c small less (inr (inr i)) kept x = absurd i
 
   pub arguments : (m n : ℕ) → TypeAt n → (k : ℕ) (a : Count) (rest : List Coming) (ls : Tokens) (c : Context) → length ls < m → length ls < n →

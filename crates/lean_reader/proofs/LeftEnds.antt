@@ -69,9 +69,9 @@ module _ (h : Outline) (all : Tokens) where
       let e3 : suc a.parts ≤ length c.parameters = v.room in
       let at = there c.parameters a.parts (omega (arith, e3)) in
       let same : at.0 ≡ z.name =
-          parameter_is (slice_get c.parameters a.parts) z.name at.0 k at.1 (subst (λ (w : List ℕ). same_parameter (slice_get c.parameters a.parts) w k ≡ None) z.first z.kept.0) in
+      parameter_is (slice_get c.parameters a.parts) z.name at.0 k at.1 (subst (λ (w : List ℕ). same_parameter (slice_get c.parameters a.parts) w k ≡ None) z.first z.kept.0) in
       let whole : z.name ∷ drop (suc a.parts) c.parameters ≡ drop a.parts c.parameters =
-          one_after c.parameters a.parts z.name (at.1 ∙ ap (λ (w : List ℕ). Some w) same) in
+      one_after c.parameters a.parts z.name (at.1 ∙ ap (λ (w : List ℕ). Some w) same) in
       record {
         room = omega (arith, e3);
         name = v.name;

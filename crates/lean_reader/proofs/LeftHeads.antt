@@ -5,7 +5,7 @@ use Rattle.std.specs.List.{flat_map}
 use Rattle.text_meaning.specs.declared.mark.Mark.{Mark}
 use Rattle.text_meaning.specs.declared.mark.Mark.TheVariants as M
 use Rattle.text_meaning.specs.Spelled as spelled
-use Rattle.text_meaning.specs.Tokens.{Token, word, id, mark}
+use Rattle.text_meaning.specs.Tokens.{Token}
 use Rattle.text_grammar.specs.declared.attributed.Coming.{Coming}
 use Rattle.text_grammar.specs.declared.attributed.Coming.TheVariants as C
 use Rattle.text_grammar.specs.declared.attributed.Count.{Count}
@@ -24,6 +24,7 @@ use Rattle.lean_reader.specs.Parser.{Tokens}
 use Rattle.lean_reader.specs.RuleContext.{Context, with_parameter}
 use Rattle.lean_reader.specs.Rules.{unless, is_type, is_in, type_parameter}
 use Rattle.lean_reader.proofs.Declared.{AreFreshParameters}
+use Rattle.lean_reader.proofs.Declaring.{between_tokens}
 use Rattle.lean_reader.proofs.Left.{Left, AreKept, after_all, part_left, taken}
 use Rattle.lean_reader.proofs.LeftTokens.{mark_next, word_next, name_next}
 use Rattle.lean_reader.proofs.Standing.{Reads, nothing}
@@ -47,10 +48,7 @@ pub more_parameters : (c : Context) (n : List ℕ) (ns : List (List ℕ)) → wi
 more_parameters c n ns =
     (λ i. record { types = c.types; definitions = c.definitions; name = c.name; parameters = append_assoc c.parameters (n ∷ []) ns i; members = c.members; earlier = append_assoc c.earlier (n ∷ []) ns i })
 
--- a type parameter between punctuation
-abbrev pub between : Mark → Mark → List ℕ → List Token
-between o c name = mark o ∷ id name ∷ mark M.Colon ∷ word (codes "Type") ∷ mark c ∷ []
-
+-- the productions of type parameters between punctuation
 abbrev pub parameter_ways : Nonterminal → Terminal → Terminal → List Production
 parameter_ways part begins ends = way (begins ▸ noting T.Name R.TypeParameter (T.Colon ▸ T.Type ▸ ends ▸ part ▹ [])) ∷ way [] ∷ []
 
@@ -68,11 +66,11 @@ module _ (h : Outline) (all : Tokens) where
   module _ (part : Nonterminal) (begins ends : Terminal) (o q : Mark) (rule : (p : Production) → IsOneOf p (attributed part) → IsOneOf p (parameter_ways part begins ends))
       (opens : t.test_of begins ≡ t.mark o) (closes : t.test_of ends ≡ t.mark q) where
     abbrev ParametersAt : ℕ → Type 0
-    ParametersAt m = (k : ℕ) (a : Count) (rest : List Coming) (ls : Tokens) (c : Context) → length ls < m → Left h all k (C.Part part a ∷ rest) ls c → GotParameters (between o q) rest ls c
+    ParametersAt m = (k : ℕ) (a : Count) (rest : List Coming) (ls : Tokens) (c : Context) → length ls < m → Left h all k (C.Part part a ∷ rest) ls c → GotParameters (between_tokens o q) rest ls c
 
     first_parameter : (m : ℕ) → ParametersAt m → (k : ℕ) (a : Count) (p : Production) (rest : List Coming) (ls : Tokens) (c : Context) → length ls < suc m →
         IsOneOf p (parameter_ways part begins ends) → AreKept h all c (closed a p.closes) → Left h all k (map (coming k a) p.symbols ++ rest) ls (after_all h all c (closed a p.closes)) →
-        GotParameters (between o q) rest ls c
+        GotParameters (between_tokens o q) rest ls c
     first_parameter m later k a p rest ls c small (inl e) kept x =
         let y = taken h all k a rest ls c p (way (begins ▸ noting T.Name R.TypeParameter (T.Colon ▸ T.Type ▸ ends ▸ part ▹ []))) e kept x in
         let z1 = mark_next h all o begins k a.parts (C.Token T.Name (Alone R.TypeParameter) a.parts ∷ C.Token T.Colon Nothing a.parts ∷ C.Token T.Type Nothing a.parts ∷ C.Token ends Nothing a.parts ∷ C.Part part a ∷ rest) ls c opens y.1 in
@@ -82,7 +80,7 @@ module _ (h : Outline) (all : Tokens) where
         let f = neither (is_type h c.types z2.name) (is_in z2.name c.parameters) (suc k) (subst (λ (w : List ℕ). type_parameter h c w (suc k) ≡ None) z2.first z2.kept.0) in
         let d = with_parameter c z2.name in
         let left2 : Left h all (suc (suc k)) (C.Token T.Colon Nothing a.parts ∷ C.Token T.Type Nothing a.parts ∷ C.Token ends Nothing a.parts ∷ C.Part part a ∷ rest) z2.others d =
-            subst (λ (w : List ℕ). Left h all (suc (suc k)) (C.Token T.Colon Nothing a.parts ∷ C.Token T.Type Nothing a.parts ∷ C.Token ends Nothing a.parts ∷ C.Part part a ∷ rest) z2.others (with_parameter c w)) z2.first z2.left in
+        subst (λ (w : List ℕ). Left h all (suc (suc k)) (C.Token T.Colon Nothing a.parts ∷ C.Token T.Type Nothing a.parts ∷ C.Token ends Nothing a.parts ∷ C.Part part a ∷ rest) z2.others (with_parameter c w)) z2.first z2.left in
         let z3 = mark_next h all M.Colon T.Colon (suc (suc k)) a.parts (C.Token T.Type Nothing a.parts ∷ C.Token ends Nothing a.parts ∷ C.Part part a ∷ rest) z2.others d refl left2 in
         let e3 = z3.less in
         let z4 = word_next h all (codes "Type") T.Type (suc (suc (suc k))) a.parts (C.Token ends Nothing a.parts ∷ C.Part part a ∷ rest) z3.others d refl z3.left in

@@ -119,13 +119,15 @@ module _ (h : Outline) (all : Tokens) where
       (i : IntTy) × Next k (word (int_word i)) rest ls c
   int_next k count rest ls c d =
       let r = token_left h all k T.Int Nothing count rest ls c d in
-      let s = int_stands r.first.kind r.good in
-      (s.0, record {
-        others = r.others;
-        read = λ mid ts q. subst (λ (y : Tokens). Reads y mid (word (int_word s.0) ∷ ts)) (sym r.is) (reads_on r.first r.others mid (word (int_word s.0)) ts s.1 q);
-        less = ap length r.is;
-        left = r.left;
-      })
+      let s = int_stands r.first.kind r.good in (
+        s.0,
+        record {
+          others = r.others;
+          read = λ mid ts q. subst (λ (y : Tokens). Reads y mid (word (int_word s.0) ∷ ts)) (sym r.is) (reads_on r.first r.others mid (word (int_word s.0)) ts s.1 q);
+          less = ap length r.is;
+          left = r.left;
+        },
+      )
 
   -- a name, with what its role's rule says
   pub record NextName (k : ℕ) (how : Noting) (count : ℕ) (rest : List Coming) (ls : Tokens) (c : Context) : Type 0 where

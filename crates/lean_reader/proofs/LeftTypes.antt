@@ -24,7 +24,7 @@ use Rattle.lean_reader.specs.Rules.{type_name, broken}
 use Rattle.lean_reader.proofs.Left.{Left, AreKept, after_all, part_left, taken}
 use Rattle.lean_reader.proofs.LeftTokens.{either, among_first, mark_next, word_next, int_next, name_next}
 use Rattle.lean_reader.proofs.Standing.{Reads, reads_join, reads_same, nothing}
-use Rattle.lean_reader.proofs.LeftNames.{lone_name, with_arguments}
+use Rattle.lean_reader.proofs.NamedTypes.{lone_name, with_arguments}
 use Rattle.lean_reader.proofs.LeftArguments.{GotType, SomeType, TypeAt, type_here, factors, arguments}
 
 module _ (h : Outline) (all : Tokens) where
@@ -39,18 +39,20 @@ module _ (h : Outline) (all : Tokens) where
       let t = type_here h all n ty (suc g.place) a (C.Part N.Factors a ∷ rest) z.others c (omega (arith, e0, e1, less)) z.left in
       let e2 = t.1 in
       let v = factors h all n n ty t.0.place a rest t.0.mid c (omega (arith, e0, e1, e2, less)) (omega (arith, e0, e1, e2, less)) t.0.left in
-      let e3 = v.shorter in
-      (record {
-        item = product (more_ptys g.item (more_ptys t.0.item v.item));
-        mid = v.mid;
-        place = v.place;
-        reads = λ d s. read v.mid _ (reads_join others g.mid v.mid _ _ (g.reads d s) (reads_same g.mid v.mid _ _
-            (ap (λ (r : List Token). mark M.Times ∷ r) (sym (append_assoc (type_tokens d c.parameters t.0.item) (times_tokens d c.parameters v.item) (mark M.Close ∷ []))))
-            (z.read v.mid _ (reads_join z.others t.0.mid v.mid _ _ (t.0.reads d s) (v.reads d s)))));
-        good = λ d s. (omega arith, (g.good d s, (t.0.good d s, v.good d s)));
-        left = v.left;
-        shorter = omega (arith, e0, e1, e2, e3, fewer);
-      }, omega (arith, e0, e1, e2, e3, fewer))
+      let e3 = v.shorter in (
+        record {
+          item = product (more_ptys g.item (more_ptys t.0.item v.item));
+          mid = v.mid;
+          place = v.place;
+          reads = λ d s. read v.mid _ (reads_join others g.mid v.mid _ _ (g.reads d s) (reads_same g.mid v.mid _ _
+              (ap (λ (r : List Token). mark M.Times ∷ r) (sym (append_assoc (type_tokens d c.parameters t.0.item) (times_tokens d c.parameters v.item) (mark M.Close ∷ []))))
+              (z.read v.mid _ (reads_join z.others t.0.mid v.mid _ _ (t.0.reads d s) (v.reads d s)))));
+          good = λ d s. (omega arith, (g.good d s, (t.0.good d s, v.good d s)));
+          left = v.left;
+          shorter = omega (arith, e0, e1, e2, e3, fewer);
+        },
+        omega (arith, e0, e1, e2, e3, fewer),
+      )
 
   -- after a bracket and a name
   after_name : (n : ℕ) → TypeAt h all n → (k j : ℕ) (p : Production) (rest : List Coming) (ls from_name others : Tokens) (c : Context) (m : List ℕ) →
@@ -68,19 +70,21 @@ module _ (h : Outline) (all : Tokens) where
       let e4 = v.0.shorter in
       let count : 1 + length (ptys_list v.0.item) ≡ suc (length (ptys_list v.0.item)) = omega arith in
       let used : broken h all c (occurrence R.TypeName j (suc (length (ptys_list v.0.item)))) ≡ None =
-          subst (λ (i : ℕ). broken h all c (occurrence R.TypeName j i) ≡ None) count v.1 in
-      let q = with_arguments h c m (length (ptys_list v.0.item)) j (subst (λ (w : List ℕ). type_name h c w (suc (length (ptys_list v.0.item))) j ≡ None) first used) in
-      (record {
-        item = named q.head.0 (more_ptys t.0.item v.0.item);
-        mid = v.0.mid;
-        place = v.0.place;
-        reads = λ d s. reads_same ls v.0.mid _ _
-            (ap (λ (w : List ℕ). mark M.Open ∷ id w ∷ (type_tokens d c.parameters t.0.item ++ (types_tokens d c.parameters v.0.item ++ mark M.Close ∷ []))) (sym (s.types m q.head q.is).0))
-            (read v.0.mid _ (read_name v.0.mid _ (reads_join others t.0.mid v.0.mid _ _ (t.0.reads d s) (v.0.reads d s))));
-        good = λ d s. ((s.types m q.head q.is).1 ∙ ap (λ (w : ℕ). Some w) q.count_is, (t.0.good d s, v.0.good d s));
-        left = v.0.left;
-        shorter = omega (arith, e1, e2, e3, e4);
-      }, omega (arith, e1, e2, e3, e4))
+      subst (λ (i : ℕ). broken h all c (occurrence R.TypeName j i) ≡ None) count v.1 in
+      let q = with_arguments h c m (length (ptys_list v.0.item)) j (subst (λ (w : List ℕ). type_name h c w (suc (length (ptys_list v.0.item))) j ≡ None) first used) in (
+        record {
+          item = named q.head.0 (more_ptys t.0.item v.0.item);
+          mid = v.0.mid;
+          place = v.0.place;
+          reads = λ d s. reads_same ls v.0.mid _ _
+              (ap (λ (w : List ℕ). mark M.Open ∷ id w ∷ (type_tokens d c.parameters t.0.item ++ (types_tokens d c.parameters v.0.item ++ mark M.Close ∷ []))) (sym (s.types m q.head q.is).0))
+              (read v.0.mid _ (read_name v.0.mid _ (reads_join others t.0.mid v.0.mid _ _ (t.0.reads d s) (v.0.reads d s))));
+          good = λ d s. ((s.types m q.head q.is).1 ∙ ap (λ (w : ℕ). Some w) q.count_is, (t.0.good d s, v.0.good d s));
+          left = v.0.left;
+          shorter = omega (arith, e1, e2, e3, e4);
+        },
+        omega (arith, e1, e2, e3, e4),
+      )
   after_name n ty k j p rest ls from_name others c m first e1 less e2 read_name read (inr (inl e)) kept x =
       let y = taken h all k (from j) rest others c p (closing R.TypeName (T.Times ▸ N.Type ▹ N.Factors ▹ [])) e kept x in
       let q = lone_name h c m j (subst (λ (w : List ℕ). type_name h c w 0 j ≡ None) first y.0.0) in
@@ -114,17 +118,19 @@ module _ (h : Outline) (all : Tokens) where
       let u = type_here h all n ty t.0.place a (C.Token T.CloseBracket Nothing a.parts ∷ rest) t.0.mid c (omega (arith, e1, e2, less)) t.0.left in
       let e3 = u.1 in
       let z = mark_next h all M.Close T.CloseBracket u.0.place a.parts rest u.0.mid c refl u.0.left in
-      let e4 = z.less in
-      (record {
-        item = exit t.0.item u.0.item;
-        mid = z.others;
-        place = suc u.0.place;
-        reads = λ d s. read z.others _ (w.read z.others _ (reads_join w.others t.0.mid z.others _ _ (t.0.reads d s)
-            (reads_join t.0.mid u.0.mid z.others _ _ (u.0.reads d s) (z.read z.others [] (nothing z.others)))));
-        good = λ d s. (t.0.good d s, u.0.good d s);
-        left = z.left;
-        shorter = omega (arith, e1, e2, e3, e4, fewer);
-      }, omega (arith, e1, e2, e3, e4, fewer))
+      let e4 = z.less in (
+        record {
+          item = exit t.0.item u.0.item;
+          mid = z.others;
+          place = suc u.0.place;
+          reads = λ d s. read z.others _ (w.read z.others _ (reads_join w.others t.0.mid z.others _ _ (t.0.reads d s)
+              (reads_join t.0.mid u.0.mid z.others _ _ (u.0.reads d s) (z.read z.others [] (nothing z.others)))));
+          good = λ d s. (t.0.good d s, u.0.good d s);
+          left = z.left;
+          shorter = omega (arith, e1, e2, e3, e4, fewer);
+        },
+        omega (arith, e1, e2, e3, e4, fewer),
+      )
   in_brackets n ty k a p rest ls others c less fewer read (inr (inr (inl e))) kept x =
       let y = taken h all k a rest others c p (way (T.Name ▸ begin N.AfterTypeName [])) e kept x in
       let z = name_next h all k Nothing a.parts (C.Part N.AfterTypeName (from k) ∷ rest) others c y.1 in
@@ -138,42 +144,48 @@ module _ (h : Outline) (all : Tokens) where
   type_step n ty k a p tail rest ls c less (inl e) kept x =
       let y = taken h all k a rest ls c p (way (T.Int ▸ tail)) e kept x in
       let z = int_next h all k a.parts (map (coming k a) tail ++ rest) ls c y.1 in
-      let e1 = z.1.less in
-      (record {
-        item = integer z.0;
-        mid = z.1.others;
-        place = suc k;
-        reads = λ d s. z.1.read z.1.others [] (nothing z.1.others);
-        good = λ d s. tt;
-        left = z.1.left;
-        shorter = omega (arith, e1);
-      }, omega (arith, e1))
+      let e1 = z.1.less in (
+        record {
+          item = integer z.0;
+          mid = z.1.others;
+          place = suc k;
+          reads = λ d s. z.1.read z.1.others [] (nothing z.1.others);
+          good = λ d s. tt;
+          left = z.1.left;
+          shorter = omega (arith, e1);
+        },
+        omega (arith, e1),
+      )
   type_step n ty k a p tail rest ls c less (inr (inl e)) kept x =
       let y = taken h all k a rest ls c p (way (T.Bool ▸ tail)) e kept x in
       let z = word_next h all (codes "Bool") T.Bool k a.parts (map (coming k a) tail ++ rest) ls c refl y.1 in
-      let e1 = z.less in
-      (record {
-        item = boolean;
-        mid = z.others;
-        place = suc k;
-        reads = λ d s. z.read z.others [] (nothing z.others);
-        good = λ d s. tt;
-        left = z.left;
-        shorter = omega (arith, e1);
-      }, omega (arith, e1))
+      let e1 = z.less in (
+        record {
+          item = boolean;
+          mid = z.others;
+          place = suc k;
+          reads = λ d s. z.read z.others [] (nothing z.others);
+          good = λ d s. tt;
+          left = z.left;
+          shorter = omega (arith, e1);
+        },
+        omega (arith, e1),
+      )
   type_step n ty k a p tail rest ls c less (inr (inr (inl e))) kept x =
       let y = taken h all k a rest ls c p (way (T.Unit ▸ tail)) e kept x in
       let z = word_next h all (codes "Unit") T.Unit k a.parts (map (coming k a) tail ++ rest) ls c refl y.1 in
-      let e1 = z.less in
-      (record {
-        item = unit;
-        mid = z.others;
-        place = suc k;
-        reads = λ d s. z.read z.others [] (nothing z.others);
-        good = λ d s. tt;
-        left = z.left;
-        shorter = omega (arith, e1);
-      }, omega (arith, e1))
+      let e1 = z.less in (
+        record {
+          item = unit;
+          mid = z.others;
+          place = suc k;
+          reads = λ d s. z.read z.others [] (nothing z.others);
+          good = λ d s. tt;
+          left = z.left;
+          shorter = omega (arith, e1);
+        },
+        omega (arith, e1),
+      )
   type_step n ty k a p tail rest ls c less (inr (inr (inr (inl e)))) kept x =
       let y = taken h all k a rest ls c p (way (T.OpenBracket ▸ N.TypeInBrackets ▹ tail)) e kept x in
       let z = mark_next h all M.Open T.OpenBracket k a.parts (C.Part N.TypeInBrackets a ∷ (map (coming k a) tail ++ rest)) ls c refl y.1 in
@@ -185,16 +197,18 @@ module _ (h : Outline) (all : Tokens) where
       let y = taken h all k a rest ls c p (way (noting T.Name R.TypeName tail)) e kept x in
       let z = name_next h all k (Alone R.TypeName) a.parts (map (coming k a) tail ++ rest) ls c y.1 in
       let e1 = z.less in
-      let q = lone_name h c z.name k (subst (λ (w : List ℕ). type_name h c w 0 k ≡ None) z.first z.kept.0) in
-      (record {
-        item = q.item;
-        mid = z.others;
-        place = suc k;
-        reads = λ d s. reads_same ls z.others _ _ (sym (q.tokens d s)) (z.read z.others [] (nothing z.others));
-        good = q.good;
-        left = z.left;
-        shorter = omega (arith, e1);
-      }, omega (arith, e1))
+      let q = lone_name h c z.name k (subst (λ (w : List ℕ). type_name h c w 0 k ≡ None) z.first z.kept.0) in (
+        record {
+          item = q.item;
+          mid = z.others;
+          place = suc k;
+          reads = λ d s. reads_same ls z.others _ _ (sym (q.tokens d s)) (z.read z.others [] (nothing z.others));
+          good = q.good;
+          left = z.left;
+          shorter = omega (arith, e1);
+        },
+        omega (arith, e1),
+      )
   type_step n ty k a p tail rest ls c less (inr (inr (inr (inr (inr i))))) kept x = absurd i
 
   type_at : (n : ℕ) → TypeAt h all n

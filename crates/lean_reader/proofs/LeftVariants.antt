@@ -33,7 +33,7 @@ use Rattle.lean_reader.proofs.Declared.{Sound, AreFresh}
 use Rattle.lean_reader.proofs.Left.{Left, AreKept, after_all, part_left, taken}
 use Rattle.lean_reader.proofs.LeftTokens.{either, among_first, mark_next, name_next}
 use Rattle.lean_reader.proofs.LeftArguments.{SomeType, GotType}
-use Rattle.lean_reader.proofs.LeftNames.{lone_name}
+use Rattle.lean_reader.proofs.NamedTypes.{lone_name}
 use Rattle.lean_reader.proofs.LeftTypes.{followed_left}
 use Rattle.lean_reader.proofs.Standing.{Reads, reads_join, reads_same, nothing}
 use Rattle.lean_reader.proofs.LeftEnds.{end_at}
