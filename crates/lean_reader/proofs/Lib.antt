@@ -67,3 +67,5 @@ pub mod LeftConstructors
 pub mod LeftAtoms
 pub mod LeftPatterns
 pub mod LeftCalls
+pub mod PassingWords
+pub mod LeftDots
