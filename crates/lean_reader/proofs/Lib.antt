@@ -69,3 +69,6 @@ pub mod LeftPatterns
 pub mod LeftCalls
 pub mod PassingWords
 pub mod LeftDots
+pub mod PrimitivesPassing
+pub mod LeftPrimitives
+pub mod LeftComputations
