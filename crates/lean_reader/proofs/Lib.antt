@@ -94,3 +94,8 @@ pub mod LeftConstructors
 pub mod LeftAtoms
 pub mod LeftPatterns
 pub mod LeftCalls
+pub mod PassingWords
+pub mod LeftDots
+pub mod PrimitivesPassing
+pub mod LeftPrimitives
+pub mod LeftComputations

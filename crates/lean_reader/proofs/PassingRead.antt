@@ -60,7 +60,7 @@ pub other_mark : (m n : Mark) (l : Lexeme) (ls : Tokens) → t.meets (t.mark m) 
 unfolding s.starts
 other_mark m n l ls h = starts_mark m n (l ∷ []) [] (mark_stands m l.kind h, tt)
 
-word_no_mark : (ws : List (List ℕ)) (n : Mark) (k : LexemeKind) → t.meets (t.words ws) k ≡ true → s.is_mark n k ≡ false
+pub word_no_mark : (ws : List (List ℕ)) (n : Mark) (k : LexemeKind) → t.meets (t.words ws) k ≡ true → s.is_mark n k ≡ false
 word_no_mark ws n (Word w) h = refl
 word_no_mark ws n (Marked w) h = absurd cc
 word_no_mark ws n (Digits w) h = absurd cc
