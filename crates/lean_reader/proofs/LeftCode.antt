@@ -29,6 +29,9 @@ use Rattle.lean_reader.specs.Parser.{Tokens}
 use Rattle.lean_reader.specs.RuleContext.{Context}
 use Rattle.lean_reader.proofs.Left.{Left, part_left, taken, AreKept, after_all, Got}
 use Rattle.lean_reader.proofs.LeftAtoms.{atom_left}
+use Rattle.lean_reader.proofs.LeftComputations.{computation_got, computation_left}
+use Rattle.lean_reader.proofs.LeftDots.{semicolon_comes, arms_come}
+use Rattle.lean_reader.proofs.LeftNames.{NoDotComes}
 use Rattle.lean_reader.proofs.LeftPatterns.{pattern_left}
 use Rattle.lean_reader.proofs.LeftRows.{row, variable_left}
 use Rattle.lean_reader.proofs.LeftTokens.{either}
@@ -47,161 +50,152 @@ arm_joined d p x xs =
 
 module _ (h : Outline) (all : Tokens) where
   abbrev pub Codes : ℕ → Type 0
-  Codes n = (k : ℕ) (a : Count) (rest : List Coming) (ls : Tokens) (c : Context) → length ls < n → Left h all k (C.Part N.Code a ∷ rest) ls c →
+  Codes n = (k : ℕ) (a : Count) (rest : List Coming) (ls : Tokens) (c : Context) → length ls < n → NoDotComes h all c rest → Left h all k (C.Part N.Code a ∷ rest) ls c →
       Got h all code_tokens IsCode rest ls c
 
   abbrev pub ManyArms : ℕ → Type 0
   ManyArms n = (k : ℕ) (a : Count) (rest : List Coming) (ls : Tokens) (c : Context) → length ls < n → Left h all k (C.Part N.Arms a ∷ rest) ls c →
       Got h all closing_arms AreArms rest ls c
 
-  -- each computation is taken off
-  abbrev pub ReadsComputations : Type 0
-  ReadsComputations = (k : ℕ) (a : Count) (rest : List Coming) (ls : Tokens) (c : Context) (p : Production) → IsOneOf p computations → AreKept h all c (closed a p.closes) →
-      Left h all k (map (coming k a) p.symbols ++ rest) ls (after_all h all c (closed a p.closes)) → Got h all comp_tokens IsComp rest ls c
+  -- arms, and the bracket that ends them
+  arms_by : (n : ℕ) → Codes n → ManyArms n → (k : ℕ) (a : Count) (rest : List Coming) (ls : Tokens) (c : Context) → length ls < suc n →
+      (p : Production) → IsOneOf p (attributed N.Arms) → AreKept h all c (closed a p.closes) → Left h all k (map (coming k a) p.symbols ++ rest) ls (after_all h all c (closed a p.closes)) →
+      Got h all closing_arms AreArms rest ls c
+  arms_by n codes_left arms_left k a rest ls c l p (inl e) g x =
+      let t = taken h all k a rest ls c p _ e g x in
+      let bar = row h all (T.Bar ∷ []) (mark M.Bar ∷ []) (mark_stands M.Bar, tt) k a.parts _ ls c t.1 in
+      let pattern = pattern_left h all bar.place a _ bar.mid c bar.left in
+      let gives = row h all (T.Gives ∷ T.Do ∷ []) (mark M.Gives ∷ word (codes "do") ∷ []) (mark_stands M.Gives, (word_stands (codes "do"), tt)) pattern.place a.parts _ pattern.mid c pattern.left in
+      let code = codes_left gives.place a _ gives.mid c (omega (arith, l, bar.shorter, pattern.shorter, gives.shorter)) (arms_come h all c a rest) gives.left in
+      let arms = arms_left code.place a rest code.mid c (omega (arith, l, bar.shorter, pattern.shorter, gives.shorter, code.shorter)) code.left in
+      record {
+        item = more_arms pattern.item code.item arms.item;
+        mid = arms.mid;
+        place = arms.place;
+        reads = λ d s.
+            reads_same ls arms.mid _ _ (arm_joined d pattern.item code.item arms.item)
+            (reads_join ls bar.mid arms.mid _ _ bar.reads
+            (reads_join bar.mid pattern.mid arms.mid _ _ (pattern.reads d s)
+            (reads_join pattern.mid gives.mid arms.mid _ _ gives.reads
+            (reads_join gives.mid code.mid arms.mid _ _ (code.reads d s) (arms.reads d s)))));
+        good = λ d s. (pattern.good d s, code.good d s, arms.good d s);
+        left = arms.left;
+        shorter = omega (arith, bar.shorter, pattern.shorter, gives.shorter, code.shorter, arms.shorter);
+      }
+  arms_by n codes_left arms_left k a rest ls c l p (inr (inl e)) g x =
+      let t = taken h all k a rest ls c p _ e g x in
+      let close = row h all (T.CloseBracket ∷ []) (mark M.Close ∷ []) (mark_stands M.Close, tt) k a.parts rest ls c t.1 in
+      record {
+        item = no_arms;
+        mid = close.mid;
+        place = close.place;
+        reads = λ d s. close.reads;
+        good = λ d s. tt;
+        left = close.left;
+        shorter = omega (arith, close.shorter);
+      }
+  arms_by n codes_left arms_left k a rest ls c l p (inr (inr e)) g x = absurd e
 
-  module _ (computation_got : ReadsComputations) where
-    computation_left : (k : ℕ) (a : Count) (rest : List Coming) (ls : Tokens) (c : Context) → Left h all k (C.Part N.Computation a ∷ rest) ls c → Got h all comp_tokens IsComp rest ls c
-    computation_left k a rest ls c x = let p = part_left h all k N.Computation a rest ls c x in computation_got k a rest ls c p.production p.one p.kept p.left
+  -- what is bound to a variable, and the code after it
+  bound_by : (n : ℕ) → Codes n → (k : ℕ) (a : Count) (rest : List Coming) (start ls : Tokens) (c : Context) (v : ℕ) → IsSmall v → length start < suc n → length ls < length start → NoDotComes h all c rest →
+      Reads start ls (word (codes "let") ∷ var_token v ∷ []) →
+      (p : Production) → IsOneOf p (attributed N.Bound) → AreKept h all c (closed a p.closes) → Left h all k (map (coming k a) p.symbols ++ rest) ls (after_all h all c (closed a p.closes)) →
+      Got h all code_tokens IsCode rest start c
+  bound_by n codes_left k a rest start ls c v small l less stop r p (inl e) g x =
+      let t = taken h all k a rest ls c p _ e g x in
+      let from = row h all (T.From ∷ []) (mark M.From ∷ []) (mark_stands M.From, tt) k a.parts _ ls c t.1 in
+      let comp = computation_left h all from.place a _ from.mid c (semicolon_comes h all c a.parts _) from.left in
+      let end = row h all (T.Semicolon ∷ []) (mark M.Semicolon ∷ []) (mark_stands M.Semicolon, tt) comp.place a.parts _ comp.mid c comp.left in
+      let code = codes_left end.place a rest end.mid c (omega (arith, l, less, from.shorter, comp.shorter, end.shorter)) stop end.left in
+      record {
+        item = bind v comp.item code.item;
+        mid = code.mid;
+        place = code.place;
+        reads = λ d s.
+            reads_join start ls code.mid _ _ r
+            (reads_join ls from.mid code.mid _ _ from.reads
+            (reads_join from.mid comp.mid code.mid _ _ (comp.reads d s)
+            (reads_join comp.mid end.mid code.mid _ _ end.reads (code.reads d s))));
+        good = λ d s. (small, comp.good d s, code.good d s);
+        left = code.left;
+        shorter = omega (arith, less, from.shorter, comp.shorter, end.shorter, code.shorter);
+      }
+  bound_by n codes_left k a rest start ls c v small l less stop r p (inr (inl e)) g x =
+      let t = taken h all k a rest ls c p _ e g x in
+      let is = row h all (T.Becomes ∷ []) (mark M.Becomes ∷ []) (mark_stands M.Becomes, tt) k a.parts _ ls c t.1 in
+      let atom = atom_left h all is.place a _ is.mid c is.left in
+      let end = row h all (T.Semicolon ∷ []) (mark M.Semicolon ∷ []) (mark_stands M.Semicolon, tt) atom.place a.parts _ atom.mid c atom.left in
+      let code = codes_left end.place a rest end.mid c (omega (arith, l, less, is.shorter, atom.shorter, end.shorter)) stop end.left in
+      record {
+        item = put v atom.item code.item;
+        mid = code.mid;
+        place = code.place;
+        reads = λ d s.
+            reads_join start ls code.mid _ _ r
+            (reads_join ls is.mid code.mid _ _ is.reads
+            (reads_join is.mid atom.mid code.mid _ _ (atom.reads d s)
+            (reads_join atom.mid end.mid code.mid _ _ end.reads (code.reads d s))));
+        good = λ d s. (small, atom.good d s, code.good d s);
+        left = code.left;
+        shorter = omega (arith, less, is.shorter, atom.shorter, end.shorter, code.shorter);
+      }
+  bound_by n codes_left k a rest start ls c v small l less stop r p (inr (inr e)) g x = absurd e
 
-    -- arms, and the bracket that ends them
-    arms_by : (n : ℕ) → Codes n → ManyArms n → (k : ℕ) (a : Count) (rest : List Coming) (ls : Tokens) (c : Context) → length ls < suc n →
-        (p : Production) → IsOneOf p (attributed N.Arms) → AreKept h all c (closed a p.closes) → Left h all k (map (coming k a) p.symbols ++ rest) ls (after_all h all c (closed a p.closes)) →
-        Got h all closing_arms AreArms rest ls c
-    arms_by n codes_left arms_left k a rest ls c l p (inl e) g x =
-        let t = taken h all k a rest ls c p _ e g x in
-        let bar = row h all (T.Bar ∷ []) (mark M.Bar ∷ []) (mark_stands M.Bar, tt) k a.parts _ ls c t.1 in
-        let pattern = pattern_left h all bar.place a _ bar.mid c bar.left in
-        let gives = row h all (T.Gives ∷ T.Do ∷ []) (mark M.Gives ∷ word (codes "do") ∷ []) (mark_stands M.Gives, (word_stands (codes "do"), tt)) pattern.place a.parts _ pattern.mid c pattern.left in
-        let code = codes_left gives.place a _ gives.mid c (omega (arith, l, bar.shorter, pattern.shorter, gives.shorter)) gives.left in
-        let arms = arms_left code.place a rest code.mid c (omega (arith, l, bar.shorter, pattern.shorter, gives.shorter, code.shorter)) code.left in
-        record {
-          item = more_arms pattern.item code.item arms.item;
-          mid = arms.mid;
-          place = arms.place;
-          reads = λ d s.
-              reads_same ls arms.mid _ _ (arm_joined d pattern.item code.item arms.item)
-              (reads_join ls bar.mid arms.mid _ _ bar.reads
-              (reads_join bar.mid pattern.mid arms.mid _ _ (pattern.reads d s)
-              (reads_join pattern.mid gives.mid arms.mid _ _ gives.reads
-              (reads_join gives.mid code.mid arms.mid _ _ (code.reads d s) (arms.reads d s)))));
-          good = λ d s. (pattern.good d s, code.good d s, arms.good d s);
-          left = arms.left;
-          shorter = omega (arith, bar.shorter, pattern.shorter, gives.shorter, code.shorter, arms.shorter);
-        }
-    arms_by n codes_left arms_left k a rest ls c l p (inr (inl e)) g x =
-        let t = taken h all k a rest ls c p _ e g x in
-        let close = row h all (T.CloseBracket ∷ []) (mark M.Close ∷ []) (mark_stands M.Close, tt) k a.parts rest ls c t.1 in
-        record {
-          item = no_arms;
-          mid = close.mid;
-          place = close.place;
-          reads = λ d s. close.reads;
-          good = λ d s. tt;
-          left = close.left;
-          shorter = omega (arith, close.shorter);
-        }
-    arms_by n codes_left arms_left k a rest ls c l p (inr (inr e)) g x = absurd e
+  -- code that is no computation
+  abbrev others : List Production
+  others = way (T.Let ▸ noted T.Variable R.Variable (N.Bound ▹ [])) ∷ way (T.OpenBracket ▸ T.Match ▸ N.Atom ▹ T.With ▸ N.Arms ▹ []) ∷ []
 
-    -- what is bound to a variable, and the code after it
-    bound_by : (n : ℕ) → Codes n → (k : ℕ) (a : Count) (rest : List Coming) (start ls : Tokens) (c : Context) (v : ℕ) → IsSmall v → length start < suc n → length ls < length start →
-        Reads start ls (word (codes "let") ∷ var_token v ∷ []) →
-        (p : Production) → IsOneOf p (attributed N.Bound) → AreKept h all c (closed a p.closes) → Left h all k (map (coming k a) p.symbols ++ rest) ls (after_all h all c (closed a p.closes)) →
-        Got h all code_tokens IsCode rest start c
-    bound_by n codes_left k a rest start ls c v small l less r p (inl e) g x =
-        let t = taken h all k a rest ls c p _ e g x in
-        let from = row h all (T.From ∷ []) (mark M.From ∷ []) (mark_stands M.From, tt) k a.parts _ ls c t.1 in
-        let comp = computation_left from.place a _ from.mid c from.left in
-        let end = row h all (T.Semicolon ∷ []) (mark M.Semicolon ∷ []) (mark_stands M.Semicolon, tt) comp.place a.parts _ comp.mid c comp.left in
-        let code = codes_left end.place a rest end.mid c (omega (arith, l, less, from.shorter, comp.shorter, end.shorter)) end.left in
-        record {
-          item = bind v comp.item code.item;
-          mid = code.mid;
-          place = code.place;
-          reads = λ d s.
-              reads_join start ls code.mid _ _ r
-              (reads_join ls from.mid code.mid _ _ from.reads
-              (reads_join from.mid comp.mid code.mid _ _ (comp.reads d s)
-              (reads_join comp.mid end.mid code.mid _ _ end.reads (code.reads d s))));
-          good = λ d s. (small, comp.good d s, code.good d s);
-          left = code.left;
-          shorter = omega (arith, less, from.shorter, comp.shorter, end.shorter, code.shorter);
-        }
-    bound_by n codes_left k a rest start ls c v small l less r p (inr (inl e)) g x =
-        let t = taken h all k a rest ls c p _ e g x in
-        let is = row h all (T.Becomes ∷ []) (mark M.Becomes ∷ []) (mark_stands M.Becomes, tt) k a.parts _ ls c t.1 in
-        let atom = atom_left h all is.place a _ is.mid c is.left in
-        let end = row h all (T.Semicolon ∷ []) (mark M.Semicolon ∷ []) (mark_stands M.Semicolon, tt) atom.place a.parts _ atom.mid c atom.left in
-        let code = codes_left end.place a rest end.mid c (omega (arith, l, less, is.shorter, atom.shorter, end.shorter)) end.left in
-        record {
-          item = put v atom.item code.item;
-          mid = code.mid;
-          place = code.place;
-          reads = λ d s.
-              reads_join start ls code.mid _ _ r
-              (reads_join ls is.mid code.mid _ _ is.reads
-              (reads_join is.mid atom.mid code.mid _ _ (atom.reads d s)
-              (reads_join atom.mid end.mid code.mid _ _ end.reads (code.reads d s))));
-          good = λ d s. (small, atom.good d s, code.good d s);
-          left = code.left;
-          shorter = omega (arith, less, is.shorter, atom.shorter, end.shorter, code.shorter);
-        }
-    bound_by n codes_left k a rest start ls c v small l less r p (inr (inr e)) g x = absurd e
+  other_by : (n : ℕ) → Codes n → ManyArms n → (k : ℕ) (a : Count) (rest : List Coming) (ls : Tokens) (c : Context) → length ls < suc n → NoDotComes h all c rest →
+      (p : Production) → IsOneOf p others → AreKept h all c (closed a p.closes) → Left h all k (map (coming k a) p.symbols ++ rest) ls (after_all h all c (closed a p.closes)) →
+      Got h all code_tokens IsCode rest ls c
+  other_by n codes_left arms_left k a rest ls c l stop p (inl e) g x =
+      let t = taken h all k a rest ls c p _ e g x in
+      let let_ = row h all (T.Let ∷ []) (word (codes "let") ∷ []) (word_stands (codes "let"), tt) k a.parts _ ls c t.1 in
+      let v = variable_left h all let_.place a.parts _ let_.mid c let_.left in
+      let b = part_left h all v.place N.Bound a rest v.mid c v.left in
+      bound_by n codes_left v.place a rest ls v.mid c v.number v.small l (omega (arith, let_.shorter, v.shorter)) stop (reads_join ls let_.mid v.mid _ _ let_.reads v.reads) b.production b.one b.kept b.left
+  other_by n codes_left arms_left k a rest ls c l stop p (inr (inl e)) g x =
+      let t = taken h all k a rest ls c p _ e g x in
+      let open_ = row h all (T.OpenBracket ∷ T.Match ∷ []) (mark M.Open ∷ word (codes "match") ∷ []) (mark_stands M.Open, (word_stands (codes "match"), tt)) k a.parts _ ls c t.1 in
+      let atom = atom_left h all open_.place a _ open_.mid c open_.left in
+      let with_ = row h all (T.With ∷ []) (word (codes "with") ∷ []) (word_stands (codes "with"), tt) atom.place a.parts _ atom.mid c atom.left in
+      let arms = arms_left with_.place a rest with_.mid c (omega (arith, l, open_.shorter, atom.shorter, with_.shorter)) with_.left in
+      record {
+        item = select atom.item arms.item;
+        mid = arms.mid;
+        place = arms.place;
+        reads = λ d s.
+            reads_join ls open_.mid arms.mid _ _ open_.reads
+            (reads_join open_.mid atom.mid arms.mid _ _ (atom.reads d s)
+            (reads_join atom.mid with_.mid arms.mid _ _ with_.reads (arms.reads d s)));
+        good = λ d s. (atom.good d s, arms.good d s);
+        left = arms.left;
+        shorter = omega (arith, open_.shorter, atom.shorter, with_.shorter, arms.shorter);
+      }
+  other_by n codes_left arms_left k a rest ls c l stop p (inr (inr e)) g x = absurd e
 
-    -- code that is no computation
-    abbrev others : List Production
-    others = way (T.Let ▸ noted T.Variable R.Variable (N.Bound ▹ [])) ∷ way (T.OpenBracket ▸ T.Match ▸ N.Atom ▹ T.With ▸ N.Arms ▹ []) ∷ []
+  -- a computation at the end
+  last_by : (k : ℕ) (a : Count) (rest : List Coming) (ls : Tokens) (c : Context) → NoDotComes h all c rest → (p : Production) → IsOneOf p computations → AreKept h all c (closed a p.closes) →
+      Left h all k (map (coming k a) p.symbols ++ rest) ls (after_all h all c (closed a p.closes)) → Got h all code_tokens IsCode rest ls c
+  last_by k a rest ls c stop p one g x =
+      let comp = computation_got h all k a rest ls c stop p one g x in
+      record { item = last comp.item; mid = comp.mid; place = comp.place; reads = comp.reads; good = comp.good; left = comp.left; shorter = comp.shorter }
 
-    other_by : (n : ℕ) → Codes n → ManyArms n → (k : ℕ) (a : Count) (rest : List Coming) (ls : Tokens) (c : Context) → length ls < suc n →
-        (p : Production) → IsOneOf p others → AreKept h all c (closed a p.closes) → Left h all k (map (coming k a) p.symbols ++ rest) ls (after_all h all c (closed a p.closes)) →
-        Got h all code_tokens IsCode rest ls c
-    other_by n codes_left arms_left k a rest ls c l p (inl e) g x =
-        let t = taken h all k a rest ls c p _ e g x in
-        let let_ = row h all (T.Let ∷ []) (word (codes "let") ∷ []) (word_stands (codes "let"), tt) k a.parts _ ls c t.1 in
-        let v = variable_left h all let_.place a.parts _ let_.mid c let_.left in
-        let b = part_left h all v.place N.Bound a rest v.mid c v.left in
-        bound_by n codes_left v.place a rest ls v.mid c v.number v.small l (omega (arith, let_.shorter, v.shorter)) (reads_join ls let_.mid v.mid _ _ let_.reads v.reads) b.production b.one b.kept b.left
-    other_by n codes_left arms_left k a rest ls c l p (inr (inl e)) g x =
-        let t = taken h all k a rest ls c p _ e g x in
-        let open_ = row h all (T.OpenBracket ∷ T.Match ∷ []) (mark M.Open ∷ word (codes "match") ∷ []) (mark_stands M.Open, (word_stands (codes "match"), tt)) k a.parts _ ls c t.1 in
-        let atom = atom_left h all open_.place a _ open_.mid c open_.left in
-        let with_ = row h all (T.With ∷ []) (word (codes "with") ∷ []) (word_stands (codes "with"), tt) atom.place a.parts _ atom.mid c atom.left in
-        let arms = arms_left with_.place a rest with_.mid c (omega (arith, l, open_.shorter, atom.shorter, with_.shorter)) with_.left in
-        record {
-          item = select atom.item arms.item;
-          mid = arms.mid;
-          place = arms.place;
-          reads = λ d s.
-              reads_join ls open_.mid arms.mid _ _ open_.reads
-              (reads_join open_.mid atom.mid arms.mid _ _ (atom.reads d s)
-              (reads_join atom.mid with_.mid arms.mid _ _ with_.reads (arms.reads d s)));
-          good = λ d s. (atom.good d s, arms.good d s);
-          left = arms.left;
-          shorter = omega (arith, open_.shorter, atom.shorter, with_.shorter, arms.shorter);
-        }
-    other_by n codes_left arms_left k a rest ls c l p (inr (inr e)) g x = absurd e
+  either_way : (n : ℕ) → Codes n → ManyArms n → (k : ℕ) (a : Count) (rest : List Coming) (ls : Tokens) (c : Context) → length ls < suc n → NoDotComes h all c rest →
+      (p : Production) → IsOneOf p computations ⊎ IsOneOf p others → AreKept h all c (closed a p.closes) → Left h all k (map (coming k a) p.symbols ++ rest) ls (after_all h all c (closed a p.closes)) →
+      Got h all code_tokens IsCode rest ls c
+  either_way n codes_left arms_left k a rest ls c l stop p (inl one) g x = last_by k a rest ls c stop p one g x
+  either_way n codes_left arms_left k a rest ls c l stop p (inr one) g x = other_by n codes_left arms_left k a rest ls c l stop p one g x
 
-    -- a computation at the end
-    last_by : (k : ℕ) (a : Count) (rest : List Coming) (ls : Tokens) (c : Context) (p : Production) → IsOneOf p computations → AreKept h all c (closed a p.closes) →
-        Left h all k (map (coming k a) p.symbols ++ rest) ls (after_all h all c (closed a p.closes)) → Got h all code_tokens IsCode rest ls c
-    last_by k a rest ls c p one g x =
-        let comp = computation_got k a rest ls c p one g x in
-        record { item = last comp.item; mid = comp.mid; place = comp.place; reads = comp.reads; good = comp.good; left = comp.left; shorter = comp.shorter }
+  both : (n : ℕ) → Codes n × ManyArms n
+  both zero = (λ k a rest ls c l stop x. absurd (omega (arith, l)), λ k a rest ls c l x. absurd (omega (arith, l)))
+  both (suc n) =
+      let r = both n in (
+        λ k a rest ls c l stop x.
+            let p = part_left h all k N.Code a rest ls c x in
+            either_way n r.0 r.1 k a rest ls c l stop p.production (either p.production computations others p.one) p.kept p.left,
+        λ k a rest ls c l x. let p = part_left h all k N.Arms a rest ls c x in arms_by n r.0 r.1 k a rest ls c l p.production p.one p.kept p.left,
+      )
 
-    either_way : (n : ℕ) → Codes n → ManyArms n → (k : ℕ) (a : Count) (rest : List Coming) (ls : Tokens) (c : Context) → length ls < suc n →
-        (p : Production) → IsOneOf p computations ⊎ IsOneOf p others → AreKept h all c (closed a p.closes) → Left h all k (map (coming k a) p.symbols ++ rest) ls (after_all h all c (closed a p.closes)) →
-        Got h all code_tokens IsCode rest ls c
-    either_way n codes_left arms_left k a rest ls c l p (inl one) g x = last_by k a rest ls c p one g x
-    either_way n codes_left arms_left k a rest ls c l p (inr one) g x = other_by n codes_left arms_left k a rest ls c l p one g x
-
-    both : (n : ℕ) → Codes n × ManyArms n
-    both zero = (λ k a rest ls c l x. absurd (omega (arith, l)), λ k a rest ls c l x. absurd (omega (arith, l)))
-    both (suc n) =
-        let r = both n in (
-          λ k a rest ls c l x.
-              let p = part_left h all k N.Code a rest ls c x in
-              either_way n r.0 r.1 k a rest ls c l p.production (either p.production computations others p.one) p.kept p.left,
-          λ k a rest ls c l x. let p = part_left h all k N.Arms a rest ls c x in arms_by n r.0 r.1 k a rest ls c l p.production p.one p.kept p.left,
-        )
-
-    pub code_left : (k : ℕ) (a : Count) (rest : List Coming) (ls : Tokens) (c : Context) → Left h all k (C.Part N.Code a ∷ rest) ls c → Got h all code_tokens IsCode rest ls c
-    code_left k a rest ls c x = (both (suc (length ls))).0 k a rest ls c (omega arith) x
+  pub code_left : (k : ℕ) (a : Count) (rest : List Coming) (ls : Tokens) (c : Context) → NoDotComes h all c rest → Left h all k (C.Part N.Code a ∷ rest) ls c → Got h all code_tokens IsCode rest ls c
+  code_left k a rest ls c stop x = (both (suc (length ls))).0 k a rest ls c (omega arith) stop x

@@ -28,7 +28,7 @@ use Rattle.lean_reader.specs.Outlines.{definition_of}
 use Rattle.lean_reader.specs.Parser.{Tokens}
 use Rattle.lean_reader.specs.Primitives as prim
 use Rattle.lean_reader.specs.RuleContext.{Context}
-use Rattle.lean_reader.specs.Rules.{broken, call, by_function, by_name, by_primitive, last_place, unless}
+use Rattle.lean_reader.specs.Rules.{broken, bearers, call, by_function, by_name, by_primitive, last_place, unless}
 use Rattle.lean_reader.specs.Outlining.{first_name}
 use Rattle.lean_reader.specs.Single as s
 use Rattle.lean_reader.specs.Tests.{place_of}
@@ -56,13 +56,13 @@ function_counted (Some f) h all ts mid n count place e x =
 definition_counted : (h : Outline) (all ts name mid : Tokens) (n : DefinitionName) (count place : ℕ) → s.starts_word (codes "fn") ts ≡ true → definition_name ts ≡ pack n mid →
     call h all ts name count place ≡ None → (p : ℕ × ℕ) × ((definition_of h n.function n.turn n.back ≡ Some p) × (p.1 ≡ count))
 definition_counted h all ts name mid n count place b e x =
-    function_counted (place_of h.functions (first_name name)) h all ts mid n count place e
-    (ap (λ (q : Bool). if q then by_function (place_of h.functions (first_name name)) h all ts count place else by_primitive all (prim.primitive ts) count) (sym b) ∙ x)
+    function_counted (place_of (bearers all) (first_name name)) h all ts mid n count place e
+    (ap (λ (q : Bool). if q then by_function (place_of (bearers all) (first_name name)) h all ts count place else by_primitive all (prim.primitive ts) count) (sym b) ∙ x)
 
 primitive_counted : (h : Outline) (all ts name mid : Tokens) (q : Primitive) (count place : ℕ) → s.starts_word (codes "fn") ts ≡ false → prim.primitive ts ≡ pack q mid →
     call h all ts name count place ≡ None → arity q ≡ count
 primitive_counted h all ts name mid q count place b e x =
-    let y = ap (λ (q : Bool). if q then by_function (place_of h.functions (first_name name)) h all ts count place else by_primitive all (prim.primitive ts) count) (sym b) ∙ x in
+    let y = ap (λ (q : Bool). if q then by_function (place_of (bearers all) (first_name name)) h all ts count place else by_primitive all (prim.primitive ts) count) (sym b) ∙ x in
     eqb-true (arity q) count (unless_true (arity q == count) (last_place all mid)
     (ap (λ (o : Option (Primitive × Tokens)). by_primitive all o count) (sym e) ∙ y))
 

@@ -14,11 +14,12 @@ use Rattle.lean_reader.specs.Outlining.{outline}
 use Rattle.lean_reader.specs.Parser.{Tokens}
 use Rattle.lean_reader.specs.RuleContext.{nothing_yet}
 use Rattle.lean_reader.proofs.Declared.{IsRuled, AreDefined, text_tokens}
+use Rattle.lean_reader.proofs.Growing.{known}
 use Rattle.lean_reader.proofs.Left.{Left, AreKept, after_all, part_left, taken}
 use Rattle.lean_reader.proofs.LeftDeclarations.{types_left}
-use Rattle.lean_reader.proofs.LeftCode.{ReadsComputations, code_left}
+use Rattle.lean_reader.proofs.LeftCode.{code_left}
 use Rattle.lean_reader.proofs.LeftDefinitions.{definitions_left}
-use Rattle.lean_reader.proofs.LeftKinds.{FunctionsKnown}
+use Rattle.lean_reader.proofs.LeftDots.{definitions_come}
 use Rattle.lean_reader.proofs.LeftRows.{row}
 use Rattle.lean_reader.proofs.Passing.{word_stands}
 use Rattle.lean_reader.proofs.Standing.{Reads, reads_join}
@@ -34,7 +35,7 @@ stand_whole ls rest ts e r = subst (λ (z : Tokens). AllStand z ts) (sym (r.spli
 none_before : (n m : ℕ) → n ≡ 0 + m → n ≡ m
 none_before n m e = omega (arith, e)
 
-module _ (all : Tokens) (known : FunctionsKnown (outline all) all) (computation_got : ReadsComputations (outline all) all) where
+module _ (all : Tokens) where
   text_by : (p : Production) → IsOneOf p (attributed N.Text) → AreKept (outline all) all nothing_yet (closed (from 0) p.closes) →
       Left (outline all) all 0 (map (coming 0 (from 0)) p.symbols ++ []) all (after_all (outline all) all nothing_yet (closed (from 0) p.closes)) → IsRuled (outline all) all
   text_by p (inl e) g x =
@@ -43,7 +44,7 @@ module _ (all : Tokens) (known : FunctionsKnown (outline all) all) (computation_
       let header = row h all (T.Import ∷ T.AenPrelude ∷ T.Open ∷ T.AenPrelude ∷ []) (word (codes "import") ∷ word (codes "AenPrelude") ∷ word (codes "open") ∷ word (codes "AenPrelude") ∷ [])
       (word_stands (codes "import"), (word_stands (codes "AenPrelude"), (word_stands (codes "open"), (word_stands (codes "AenPrelude"), tt)))) 0 0 _ all nothing_yet t.1 in
       let ts = types_left h all header.place (from 0) _ header.mid nothing_yet header.left in
-      let xs = definitions_left h all known (code_left h all computation_got) ts.place (from 0) [] ts.mid ts.then ts.left in
+      let xs = definitions_left h all (known all) (code_left h all) ts.place (from 0) [] ts.mid ts.then (λ c. definitions_come h all c (from 0)) ts.left in
       let end = nothing_by xs.place xs.mid xs.left.occurrences xs.left.occur in
       let counted = subst (λ (n : ℕ). AreDefined h n ts.then.definitions xs.defs) (none_before ts.then.types (length ts.types) ts.types_then) xs.defined in
       record {
