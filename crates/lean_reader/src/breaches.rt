@@ -57,7 +57,9 @@ fn broken(
         }
         Role::Call => {
             let second = from(tokens, at + 2);
-            Ok(call(alloc, tables, functions, tokens, empty, here, second, count, place)?)
+            Ok(call(
+                alloc, tables, functions, tokens, empty, here, second, count, place,
+            )?)
         }
     }
 }

@@ -115,11 +115,7 @@ fn by_primitive(
 
 /// The functions that definitions are named after, also where a number in the name is none. The only
 /// error is want of memory.
-pub(crate) fn bearers(
-    alloc: Global,
-    empty: &Name,
-    tokens: &[Lexeme],
-) -> Result<ByName<Name>, NoMem>
+pub(crate) fn bearers(alloc: Global, empty: &Name, tokens: &[Lexeme]) -> Result<ByName<Name>, NoMem>
     requires { empty.now ≡ [] }
     ensures { IfOk result (λ fs. fs ≡ spec.bearers tokens.now) }
 {
