@@ -64,6 +64,7 @@ pub mod PassingRead
 pub mod LeftNames
 pub mod LeftPieces
 pub mod LeftConstructors
+pub mod LeftPlain
 pub mod LeftAtoms
 pub mod LeftPatterns
 pub mod LeftCalls
