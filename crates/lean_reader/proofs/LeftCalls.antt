@@ -1,9 +1,9 @@
 -- Atoms one after another, the parts of a call, are taken off what is left of a text.
-use Rattle.std.proofs.Common.{◌≡◌, refl, ap, sym, subst, ◌∙◌, ℕ, zero, suc, ◌≤◌, ◌<◌, arith, List, [], ◌∷◌, ◌++◌, map, length, ◌⊎◌, inl, inr, Option, Some, None}
+use Rattle.std.proofs.Common.{ℕ, zero, suc, ◌≤◌, ◌<◌, arith, List, [], ◌∷◌, ◌++◌, map, length, ◌⊎◌, inl, inr}
 use Rattle.pure_ast.specs.declared.def.Defs.{Defs}
 use Rattle.pure_ast.specs.Terms.{Term, terms}
 use Rattle.text_meaning.specs.SpelledTerms.{term_tokens, terms_tokens}
-use Rattle.text_meaning.specs.WellFormedTerms.{IsTerm, AreTerms}
+use Rattle.text_meaning.specs.WellFormedTerms.{AreTerms}
 use Rattle.text_grammar.specs.declared.attributed.Coming.{Coming}
 use Rattle.text_grammar.specs.declared.attributed.Coming.TheVariants as C
 use Rattle.text_grammar.specs.declared.attributed.Count.{Count}

@@ -1,17 +1,15 @@
 -- Computations are taken off what is left of a text.
-use Rattle.std.proofs.Common.{◌≡◌, refl, ap, sym, subst, ◌∙◌, ℕ, suc, ◌+◌, ◌≤◌, ◌<◌, arith, Bool, true, false, List, [], ◌∷◌, ◌++◌, map, length, drop, inl, inr, Option, Some, None}
+use Rattle.std.proofs.Common.{◌≡◌, refl, ap, sym, subst, ◌∙◌, ℕ, suc, ◌+◌, arith, Bool, true, false, List, [], ◌∷◌, ◌++◌, map, length, drop, inl, inr, Option, Some, None}
 use Rattle.std.specs.Prelude.{codes, ◌==◌, if◌then◌else◌}
 use Rattle.std.proofs.lemmas.Bool.{eqb-true}
 use Rattle.pure_ast.specs.declared.comp.Comp.TheVariants as K
 use Rattle.pure_ast.specs.declared.comp.Primitive.{Primitive}
-use Rattle.pure_ast.specs.declared.def.Defs.{Defs}
 use Rattle.pure_ast.specs.Terms.{terms}
 use Rattle.text_meaning.specs.Ranges.{arity}
 use Rattle.text_meaning.specs.SpelledNames.{callee_tokens, prim_tokens}
 use Rattle.text_meaning.specs.SpelledTerms.{terms_tokens, comp_tokens}
-use Rattle.text_meaning.specs.Tokens.{Token, word}
+use Rattle.text_meaning.specs.Tokens.{word}
 use Rattle.text_meaning.specs.WellFormedTerms.{IsComp}
-use Rattle.text_tokens.specs.declared.lexeme.Lexeme.{Lexeme}
 use Rattle.text_grammar.specs.declared.attributed.Coming.{Coming}
 use Rattle.text_grammar.specs.declared.attributed.Coming.TheVariants as C
 use Rattle.text_grammar.specs.declared.attributed.Count.{Count}
@@ -28,14 +26,18 @@ use Rattle.lean_reader.specs.Outlines.{definition_of}
 use Rattle.lean_reader.specs.Parser.{Tokens}
 use Rattle.lean_reader.specs.Primitives as prim
 use Rattle.lean_reader.specs.RuleContext.{Context}
+<<<<<<< HEAD
 use Rattle.lean_reader.specs.Rules.{broken, bearers, call, by_function, by_name, by_primitive, last_place, unless}
+=======
+use Rattle.lean_reader.specs.Rules.{broken, call, by_function, by_name, by_primitive, last_place}
+>>>>>>> 5134c7eb49eeaae8a0c7e1acbab7b417469c3cd5
 use Rattle.lean_reader.specs.Outlining.{first_name}
 use Rattle.lean_reader.specs.Single as s
 use Rattle.lean_reader.specs.Tests.{place_of}
 use Rattle.lean_reader.proofs.Agreement.{tokens_of_name}
 use Rattle.lean_reader.proofs.Left.{Left, Got, AreKept, after_all, token_left, part_left, taken}
 use Rattle.lean_reader.proofs.LeftAtoms.{atom_whole}
-use Rattle.lean_reader.proofs.LeftCalls.{CallParts, atoms_left}
+use Rattle.lean_reader.proofs.LeftCalls.{atoms_left}
 use Rattle.lean_reader.proofs.LeftNames.{NoDotComes, fuel_comes, name_left}
 use Rattle.lean_reader.proofs.LeftPieces.{all_counted, joined, piece_as, piece_got, token_piece, reads_first}
 use Rattle.lean_reader.proofs.LeftPrimitives.{PrimitiveLeft, int_left, bool_left, box_left, cast_left, memory_left}

@@ -1,6 +1,5 @@
 -- The names of constructors are taken off what is left of a text; with how many parts, is told later.
-use Rattle.std.proofs.Math.Dec.{lit≤}
-use Rattle.std.proofs.Common.{◌≡◌, refl, ap, sym, subst, ◌∙◌, ℕ, suc, ◌+◌, ◌≤◌, ◌<◌, arith, Bool, true, false, List, [], ◌∷◌, ◌++◌, map, length, drop, Option, Some, None, inl, inr}
+use Rattle.std.proofs.Common.{◌≡◌, refl, ap, sym, ◌∙◌, ℕ, suc, ◌+◌, ◌<◌, arith, Bool, true, false, List, [], ◌∷◌, ◌++◌, map, length, drop, Option, Some, None, inl, inr}
 use Rattle.std.specs.Prelude.{codes, ◌==◌, if◌then◌else◌}
 use Rattle.std.proofs.lemmas.Bool.{eqb-true}
 use Rattle.pure_ast.specs.declared.ctor.CtorId.{CtorId}
@@ -16,7 +15,7 @@ use Rattle.text_grammar.specs.declared.attributed.Attributed.{Attributed}
 use Rattle.text_grammar.specs.declared.attributed.Coming.{Coming}
 use Rattle.text_grammar.specs.declared.attributed.Coming.TheVariants as C
 use Rattle.text_grammar.specs.declared.attributed.Count.{Count}
-use Rattle.text_grammar.specs.declared.attributed.Noting.TheVariants.{Nothing, Alone}
+use Rattle.text_grammar.specs.declared.attributed.Noting.TheVariants.{Nothing}
 use Rattle.text_grammar.specs.declared.role.Role.TheVariants as R
 use Rattle.text_grammar.specs.declared.symbol.Nonterminal.TheVariants as N
 use Rattle.text_grammar.specs.declared.symbol.Terminal.TheVariants as T

@@ -1,5 +1,5 @@
 -- Where what comes next is no dot.
-use Rattle.std.proofs.Common.{◌≡◌, refl, ap, sym, subst, ◌∙◌, ℕ, suc, true, false, List, [], ◌∷◌, ◌++◌, map, ◌⊎◌, inl, inr, Option, Some, None}
+use Rattle.std.proofs.Common.{◌≡◌, refl, ap, sym, subst, ◌∙◌, ℕ, true, false, List, [], ◌∷◌, ◌++◌, map, ◌⊎◌, inl, inr}
 use Rattle.std.specs.Prelude.{codes}
 use denote.Enum.Bare.{sameb, same_true}
 use Rattle.text_meaning.specs.contracts.mark.Mark.{the_type}

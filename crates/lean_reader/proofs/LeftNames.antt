@@ -1,9 +1,7 @@
 -- The names of definitions are taken off what is left of a text.
-use Rattle.std.proofs.Common.{◌≡◌, refl, ap, sym, subst, ◌∙◌, ℕ, suc, ◌≤◌, arith, true, false, List, [], ◌∷◌, ◌++◌, map, length, drop, Option, Some, None, inl, inr}
+use Rattle.std.proofs.Common.{◌≡◌, refl, ap, sym, subst, ◌∙◌, ℕ, suc, ◌≤◌, arith, true, false, List, [], ◌∷◌, ◌++◌, map, length, Option, Some, None, inl, inr}
 use Rattle.std.specs.Prelude.{codes}
-use Rattle.std.specs.Fmt.{decimal}
 use Rattle.text_meaning.specs.declared.mark.Mark.TheVariants as M
-use Rattle.text_meaning.specs.Tokens.{Token, word, id, mark}
 use Rattle.text_tokens.specs.declared.lexeme.Lexeme.{Lexeme}
 use Rattle.text_grammar.specs.declared.attributed.Coming.{Coming}
 use Rattle.text_grammar.specs.declared.attributed.Coming.TheVariants as C

@@ -1,5 +1,5 @@
 -- Patterns are taken off what is left of a text.
-use Rattle.std.proofs.Common.{◌≡◌, refl, ap, sym, subst, ◌∙◌, ℕ, zero, suc, ◌≤◌, ◌<◌, arith, true, false, List, [], ◌∷◌, ◌++◌, map, length, ◌⊎◌, inl, inr, Option, Some, None}
+use Rattle.std.proofs.Common.{refl, ℕ, zero, suc, ◌≤◌, ◌<◌, arith, true, false, List, [], ◌∷◌, ◌++◌, map, length, ◌⊎◌, inl, inr}
 use Rattle.std.specs.Prelude.{codes}
 use Rattle.std.specs.List.{flat_map}
 use Rattle.pure_ast.specs.declared.def.Defs.{Defs}
@@ -9,7 +9,7 @@ use Rattle.text_meaning.specs.Lists.{Each}
 use Rattle.text_meaning.specs.Ranges.{IsSmall}
 use Rattle.text_meaning.specs.SpelledNames.{var_token, ctor_tokens}
 use Rattle.text_meaning.specs.SpelledTerms.{pat_tokens}
-use Rattle.text_meaning.specs.Tokens.{Token, word, mark}
+use Rattle.text_meaning.specs.Tokens.{word, mark}
 use Rattle.text_meaning.specs.WellFormedTerms.{IsPattern}
 use Rattle.text_grammar.specs.declared.attributed.Coming.{Coming}
 use Rattle.text_grammar.specs.declared.attributed.Coming.TheVariants as C
@@ -28,7 +28,7 @@ use Rattle.lean_reader.specs.Parser.{Tokens}
 use Rattle.lean_reader.specs.RuleContext.{Context}
 use Rattle.lean_reader.proofs.Computing.{comma_one}
 use Rattle.lean_reader.proofs.Declared.{Sound}
-use Rattle.lean_reader.proofs.Left.{Left, Got, AreKept, after_all, token_left, part_left, taken}
+use Rattle.lean_reader.proofs.Left.{Left, Got, AreKept, after_all, part_left, taken}
 use Rattle.lean_reader.proofs.LeftConstructors.{constructor_by}
 use Rattle.lean_reader.proofs.LeftPieces.{Piece, Counted, none_counted, one_counted, all_counted, joined, piece_as, piece_got, token_piece, variable_piece, split_one}
 use Rattle.lean_reader.proofs.Passing.{word_stands, mark_stands}

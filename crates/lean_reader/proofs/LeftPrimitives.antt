@@ -1,11 +1,10 @@
 -- Primitives are taken off what is left of a text.
-use Rattle.std.proofs.Common.{◌≡◌, refl, ap, sym, subst, ◌∙◌, ℕ, suc, ◌≤◌, ◌<◌, arith, true, false, List, [], ◌∷◌, ◌++◌, map, length, ◌⊎◌, inl, inr, Option, Some, None}
+use Rattle.std.proofs.Common.{◌≡◌, refl, ap, sym, subst, ◌∙◌, ℕ, suc, ◌≤◌, arith, true, false, List, [], ◌∷◌, ◌++◌, map, length, inl, inr, Some}
 use Rattle.std.specs.Prelude.{codes}
 use Rattle.aen_base.specs.declared.operators.Builtin.{Builtin}
 use Rattle.aen_base.specs.declared.operators.Builtin.TheVariants.{BoxNew, Replace, Swap}
 use Rattle.pure_ast.specs.declared.comp.Primitive.{Primitive}
 use Rattle.pure_ast.specs.declared.comp.Primitive.TheVariants as P
-use Rattle.text_meaning.specs.declared.mark.Mark.TheVariants as M
 use Rattle.text_meaning.specs.Words.{int_words}
 use Rattle.text_tokens.specs.declared.lexeme.Lexeme.{Lexeme}
 use Rattle.text_grammar.specs.declared.attributed.Coming.{Coming}
@@ -213,19 +212,19 @@ module _ (h : Outline) (all : Tokens) (c : Context) where
   replace_by k a rest ls p stop (inr (inl e)) kept x = no_back Replace k rest ls stop (taken h all k a rest ls c p _ e kept x).1
   replace_by k a rest ls p stop (inr (inr o)) kept x = absurd o
 
-  region_by : (k i : ℕ) (a : Count) (rest : List Coming) (ls us : Tokens) (l : Lexeme) → ls ≡ l ∷ us → passes T.Dot l.kind ≡ true → (p : Production) → IsOneOf p (attributed N.SwapRegion) →
+  region_by : (k : ℕ) (a : Count) (rest : List Coming) (ls us : Tokens) (l : Lexeme) → ls ≡ l ∷ us → passes T.Dot l.kind ≡ true → (p : Production) → IsOneOf p (attributed N.SwapRegion) →
       AreKept h all c (closed a p.closes) → Left h all (suc k) (map (coming (suc k) a) p.symbols ++ rest) us (after_all h all c (closed a p.closes)) → MemoryEnd Swap rest ls
-  region_by k i a rest ls us l is g p (inl e) kept x =
+  region_by k a rest ls us l is g p (inl e) kept x =
       let y = taken h all (suc k) a rest us c p _ e kept x in
       let t = token_left h all (suc k) T.BackZero Nothing a.parts rest us c y.1 in
       let b : Two k T.Dot T.BackZero rest ls = record { one = l; two = t.first; others = t.others; is = is ∙ ap (λ (xs : Tokens). l ∷ xs) t.is; first = g; second = t.good; left = t.left } in
       one_back Swap (P.Back Swap (record { 0 = 0 })) 0 k T.BackZero rest ls b (back_zero t.first t.others t.good) swap_zero
-  region_by k i a rest ls us l is g p (inr (inl e)) kept x =
+  region_by k a rest ls us l is g p (inr (inl e)) kept x =
       let y = taken h all (suc k) a rest us c p _ e kept x in
       let t = token_left h all (suc k) T.BackOne Nothing a.parts rest us c y.1 in
       let b : Two k T.Dot T.BackOne rest ls = record { one = l; two = t.first; others = t.others; is = is ∙ ap (λ (xs : Tokens). l ∷ xs) t.is; first = g; second = t.good; left = t.left } in
       one_back Swap (P.Back Swap (record { 0 = 1 })) 1 k T.BackOne rest ls b (back_one t.first t.others t.good) swap_one
-  region_by k i a rest ls us l is g p (inr (inr o)) kept x = absurd o
+  region_by k a rest ls us l is g p (inr (inr o)) kept x = absurd o
 
   swap_by : (k : ℕ) (a : Count) (rest : List Coming) (ls : Tokens) (p : Production) → NoDotComes h all c rest → IsOneOf p (attributed N.SwapEnd) →
       AreKept h all c (closed a p.closes) → Left h all k (map (coming k a) p.symbols ++ rest) ls (after_all h all c (closed a p.closes)) → MemoryEnd Swap rest ls
@@ -233,7 +232,7 @@ module _ (h : Outline) (all : Tokens) (c : Context) where
       let y = taken h all k a rest ls c p _ e kept x in
       let t = token_left h all k T.Dot Nothing a.parts (C.Part N.SwapRegion a ∷ rest) ls c y.1 in
       let q = part_left h all (suc k) N.SwapRegion a rest t.others c t.left in
-      region_by k a.parts a rest ls t.others t.first t.is t.good q.production q.one q.kept q.left
+      region_by k a rest ls t.others t.first t.is t.good q.production q.one q.kept q.left
   swap_by k a rest ls p stop (inr (inl e)) kept x = no_back Swap k rest ls stop (taken h all k a rest ls c p _ e kept x).1
   swap_by k a rest ls p stop (inr (inr o)) kept x = absurd o
 

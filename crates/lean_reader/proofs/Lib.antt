@@ -91,6 +91,7 @@ pub mod KeptRules
 pub mod LeftText
 pub mod LeftPieces
 pub mod LeftConstructors
+pub mod LeftPlain
 pub mod LeftAtoms
 pub mod LeftPatterns
 pub mod LeftCalls

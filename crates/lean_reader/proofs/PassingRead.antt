@@ -1,17 +1,14 @@
 -- A lexeme that passes the test of a token of the grammar is what the rules of reading look for.
-use Rattle.std.proofs.Common.{◌≡◌, refl, ap, sym, subst, ◌∙◌, ℕ, suc, Bool, true, false, List, [], ◌∷◌, ◌++◌, drop, Option, Some, None}
-use Rattle.std.specs.Prelude.{◌||◌, ◌==◌, bytes_eq, codes, is_some}
+use Rattle.std.proofs.Common.{◌≡◌, refl, sym, subst, ℕ, Bool, true, false, List, [], ◌∷◌, drop, Option, Some, None}
+use Rattle.std.specs.Prelude.{◌||◌, ◌==◌, bytes_eq, is_some}
 use Rattle.std.specs.List.{list_any}
-use Rattle.std.specs.Fmt.{decimal}
 use Rattle.std.proofs.lemmas.Bool.{eqb-true}
 use denote.Enum.Bare.{sameb}
 use Rattle.text_meaning.specs.contracts.mark.Mark.{the_type}
 use Rattle.text_meaning.specs.declared.mark.Mark.{Mark}
-use Rattle.text_meaning.specs.Tokens.{Token, word, id, number, mark}
 use Rattle.text_tokens.specs.declared.lexeme.Lexeme.{Lexeme}
 use Rattle.text_tokens.specs.declared.lexeme.LexemeKind.{LexemeKind}
 use Rattle.text_tokens.specs.declared.lexeme.LexemeKind.TheVariants.{Word, Marked, Number as Digits, Punct}
-use Rattle.text_tokens.specs.Stands.{Stands}
 use Rattle.text_grammar.specs.Tests as t
 use Rattle.lean_reader.specs.Calls.{first_numbered, number_after}
 use Rattle.lean_reader.specs.Parser.{Tokens}

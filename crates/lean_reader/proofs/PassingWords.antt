@@ -1,5 +1,5 @@
 -- Which of some words a lexeme is that passes their test: integer types and operators.
-use Rattle.std.proofs.Common.{◌≡◌, refl, ap, sym, subst, ◌∙◌, ℕ, ◌≤◌, ◌<◌, ◌^◌, arith, Bool, true, false, List, [], ◌∷◌, ◌++◌, ◌⊎◌, inl, inr, Option, Some, None}
+use Rattle.std.proofs.Common.{◌≡◌, refl, ap, sym, ◌∙◌, ℕ, arith, Bool, true, false, List, [], ◌∷◌, ◌++◌, inl, inr, Some}
 use Rattle.std.proofs.Math.Dec.{lit≤}
 use Rattle.std.specs.Prelude.{◌||◌, bytes_eq, codes}
 use Rattle.std.specs.List.{list_any}

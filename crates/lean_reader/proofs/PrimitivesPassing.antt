@@ -1,5 +1,5 @@
 -- Lexemes that pass the tests of a primitive's tokens are read as that primitive.
-use Rattle.std.proofs.Common.{◌≡◌, refl, ap, sym, subst, ◌∙◌, ℕ, ◌≤◌, ◌<◌, true, false, List, [], ◌∷◌, Option, Some, None}
+use Rattle.std.proofs.Common.{◌≡◌, refl, ◌∙◌, ℕ, true, false, List, ◌∷◌, Some}
 use Rattle.std.specs.Prelude.{codes}
 use Rattle.aen_base.specs.declared.int_ty.IntTy.{IntTy}
 use Rattle.aen_base.specs.declared.operators.Builtin.{Builtin}
