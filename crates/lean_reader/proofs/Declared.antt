@@ -1,6 +1,6 @@
 -- What is known of a text that keeps the rules beside the grammar: what it declares, what its tokens
 -- are, under any definitions that its names stand for.
-use Rattle.std.specs.Prelude.{◌≡◌, ◌≤◌, ◌^◌, ℕ, suc, Bool, true, false, List, [], ◌∷◌, ◌++◌, length, map, Option, Some, codes}
+use Rattle.std.specs.Prelude.{◌≡◌, ◌≤◌, ◌^◌, ℕ, suc, Bool, true, false, List, [], ◌∷◌, ◌++◌, length, Option, Some, codes}
 use Rattle.std.specs.List.{flat_map}
 use Rattle.pure_ast.specs.declared.ctor.CtorId.{CtorId}
 use Rattle.pure_ast.specs.declared.def.Def.{Def}
@@ -10,7 +10,7 @@ use Rattle.text_meaning.specs.declared.mark.Mark.TheVariants as M
 use Rattle.text_meaning.specs.Lists.{Each}
 use Rattle.text_meaning.specs.Lookups.{Variant, type_name, parts_of}
 use Rattle.text_meaning.specs.Spelled as spelled
-use Rattle.text_meaning.specs.SpelledNames.{ctor_tokens, callee_tokens, kind_tokens}
+use Rattle.text_meaning.specs.SpelledNames.{ctor_tokens, callee_tokens}
 use Rattle.text_meaning.specs.Tokens.{Token, word, id, mark}
 use Rattle.text_meaning.specs.WellFormed.{IsKind}
 use Rattle.text_meaning.specs.WellFormedCode.{IsCode}

@@ -1,9 +1,9 @@
 -- What is left of a text by a derivation that breaks no rule, and how tokens and parts are taken off it.
-use Rattle.std.proofs.Common.{◌≡◌, refl, ap, sym, subst, ◌∙◌, ℕ, zero, suc, ◌≤◌, ◌<◌, arith, true, false, List, [], ◌∷◌, ◌++◌, map, length, length-append, drop, Option, Some, None}
+use Rattle.std.proofs.Common.{◌≡◌, refl, ap, subst, ◌∙◌, ℕ, zero, suc, ◌≤◌, arith, true, List, [], ◌∷◌, ◌++◌, map, length, length-append, drop, Option, Some, None}
 use Rattle.pure_ast.specs.declared.def.Defs.{Defs}
 use Rattle.text_meaning.specs.Tokens.{Token}
 use Rattle.text_tokens.specs.declared.lexeme.Lexeme.{Lexeme}
-use Rattle.text_tokens.specs.Stands.{Stands, AllStand}
+use Rattle.text_tokens.specs.Stands.{Stands}
 use Rattle.text_grammar.specs.declared.attributed.Coming.{Coming}
 use Rattle.text_grammar.specs.declared.attributed.Coming.TheVariants as C
 use Rattle.text_grammar.specs.declared.attributed.Count.{Count}
@@ -22,7 +22,7 @@ use Rattle.lean_reader.specs.Parser.{Tokens}
 use Rattle.lean_reader.specs.RuleContext.{Context, after}
 use Rattle.lean_reader.specs.Rules.{broken}
 use Rattle.lean_reader.proofs.Declared.{Sound}
-use Rattle.lean_reader.proofs.Standing.{Reads, reads_join, nothing}
+use Rattle.lean_reader.proofs.Standing.{Reads, reads_join}
 
 -- the next lexeme's place
 pub next_place : (all : Tokens) (k : ℕ) (l : Lexeme) (ls : Tokens) → l ∷ ls ≡ drop k all → ls ≡ drop (suc k) all

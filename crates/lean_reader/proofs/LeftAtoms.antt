@@ -145,15 +145,17 @@ module _ (h : Outline) (all : Tokens) (c : Context) where
       let e1 = u.1.fewer in
       let v = more_parts m m f (tupled m f m) u.1.place i a b rest u.1.mid (omega arith) (omega arith) u.1.left in
       let w = joined h all c u.1 v.piece in
-      let e2 = w.fewer in
-      (tuple (more_terms u.0 (more_terms v.first v.parts)), record {
-        mid = w.mid;
-        place = w.place;
-        reads = λ d sound. reads_join (l ∷ ls) ls w.mid (mark M.Open ∷ []) _ (reads_first (l ∷ ls) ls l (mark M.Open) refl opens) (w.reads d sound);
-        good = λ d sound. ((λ k. let j : suc (suc (length (terms_list v.parts))) ≡ 1 = k in absurd (omega arith)), w.good d sound);
-        left = w.left;
-        fewer = omega arith;
-      })
+      let e2 = w.fewer in (
+        tuple (more_terms u.0 (more_terms v.first v.parts)),
+        record {
+          mid = w.mid;
+          place = w.place;
+          reads = λ d sound. reads_join (l ∷ ls) ls w.mid (mark M.Open ∷ []) _ (reads_first (l ∷ ls) ls l (mark M.Open) refl opens) (w.reads d sound);
+          good = λ d sound. ((λ k. let j : suc (suc (length (terms_list v.parts))) ≡ 1 = k in absurd (omega arith)), w.good d sound);
+          left = w.left;
+          fewer = omega arith;
+        },
+      )
 
   -- a constructor with parts, whose bracket was taken off
   built_piece : (l : Lexeme) (k : ℕ) (cs rest : List Coming) (ls : Tokens) (n : Named h all c k cs ls) → Stands l.kind (mark M.Open) → MoreArguments (from k) rest n.mid → TermPiece h all c rest (l ∷ ls)
@@ -161,18 +163,20 @@ module _ (h : Outline) (all : Tokens) (c : Context) where
       let count = suc (length (terms_list r.parts)) in
       let b = n.known count (all_counted h all c R.Constructor k count r.kept) in
       let e1 = n.fewer in
-      let e2 = r.piece.fewer in
-      (built b.ctor (more_terms r.first r.parts), record {
-        mid = r.piece.mid;
-        place = r.piece.place;
-        reads = λ d sound. subst (λ (ts : List Token). Reads (l ∷ ls) r.piece.mid (mark M.Open ∷ (ctor_tokens d b.ctor ++ ts)))
-            (append_assoc (term_tokens d r.first) (terms_tokens d r.parts) (mark M.Close ∷ []))
-            (reads_join (l ∷ ls) ls r.piece.mid (mark M.Open ∷ []) _ (reads_first (l ∷ ls) ls l (mark M.Open) refl opens)
-            (reads_join ls n.mid r.piece.mid (ctor_tokens d b.ctor) _ (b.reads d sound) (r.piece.reads d sound)));
-        good = λ d sound. (b.parts d sound, r.piece.good d sound);
-        left = r.piece.left;
-        fewer = omega arith;
-      })
+      let e2 = r.piece.fewer in (
+        built b.ctor (more_terms r.first r.parts),
+        record {
+          mid = r.piece.mid;
+          place = r.piece.place;
+          reads = λ d sound. subst (λ (ts : List Token). Reads (l ∷ ls) r.piece.mid (mark M.Open ∷ (ctor_tokens d b.ctor ++ ts)))
+              (append_assoc (term_tokens d r.first) (terms_tokens d r.parts) (mark M.Close ∷ []))
+              (reads_join (l ∷ ls) ls r.piece.mid (mark M.Open ∷ []) _ (reads_first (l ∷ ls) ls l (mark M.Open) refl opens)
+              (reads_join ls n.mid r.piece.mid (ctor_tokens d b.ctor) _ (b.reads d sound) (r.piece.reads d sound)));
+          good = λ d sound. (b.parts d sound, r.piece.good d sound);
+          left = r.piece.left;
+          fewer = omega arith;
+        },
+      )
 
   abbrev tuple_tail : List Attributed
   tuple_tail = T.Comma ▸ N.Atom ▹ N.TupleParts ▹ []

@@ -1,5 +1,5 @@
 -- What a definition has after its name is taken off what is left of a text.
-use Rattle.std.proofs.Common.{ℕ, suc, ◌+◌, ◌^◌, ◌≤◌, arith, List, [], ◌∷◌, ◌++◌, map, length}
+use Rattle.std.proofs.Common.{ℕ, suc, ◌^◌, ◌≤◌, arith, List, [], ◌∷◌, ◌++◌, map, length}
 use Rattle.std.specs.Prelude.{codes}
 use Rattle.std.specs.List.{flat_map}
 use Rattle.pure_ast.specs.declared.def.Defs.{Defs}
@@ -19,9 +19,8 @@ use Rattle.lean_reader.specs.declared.outline.Outline.{Outline}
 use Rattle.lean_reader.specs.Outlines.{environment}
 use Rattle.lean_reader.specs.Parser.{Tokens}
 use Rattle.lean_reader.specs.RuleContext.{Context, with_definitions}
-use Rattle.lean_reader.specs.Rules.{definition}
 use Rattle.lean_reader.proofs.Declared.{Sound}
-use Rattle.lean_reader.proofs.Left.{Left, Got, taken}
+use Rattle.lean_reader.proofs.Left.{Left, Got}
 use Rattle.lean_reader.proofs.LeftHeads.{implicit_parameters_left, with_parameters}
 use Rattle.lean_reader.proofs.LeftNames.{NoDotComes}
 use Rattle.lean_reader.proofs.LeftParameters.{inputs_left}
@@ -47,8 +46,28 @@ fuel_stand : AreFor fuel_terminals spelled.fuel_tokens
 fuel_stand = (mark_stands M.Open, (word_stands (codes "n"), (mark_stands M.Colon, (word_stands (codes "Nat"), (mark_stands M.Close, tt)))))
 
 match_stand : AreFor match_terminals (mark M.Becomes ∷ spelled.fuel_match)
-match_stand = (mark_stands M.Becomes, (word_stands (codes "match"), (word_stands (codes "n"), (word_stands (codes "with"), (mark_stands M.Bar, (zero_stands, (mark_stands M.Gives,
-    (word_stands (codes "outOfFuel"), (mark_stands M.Bar, (word_stands (codes "n"), (mark_stands M.Plus, (one_stands, (mark_stands M.Gives, (word_stands (codes "do"), tt))))))))))))))
+match_stand = (
+  mark_stands M.Becomes,
+  (
+    word_stands (codes "match"),
+    (
+      word_stands (codes "n"),
+      (
+        word_stands (codes "with"),
+        (
+          mark_stands M.Bar,
+          (
+            zero_stands,
+            (
+              mark_stands M.Gives,
+              (word_stands (codes "outOfFuel"), (mark_stands M.Bar, (word_stands (codes "n"), (mark_stands M.Plus, (one_stands, (mark_stands M.Gives, (word_stands (codes "do"), tt))))))),
+            ),
+          ),
+        ),
+      ),
+    ),
+  ),
+)
 
 -- what is to come from a definition's type parameters on, and from its result on
 abbrev pub body_symbols : Count → List Coming → List Coming

@@ -1,22 +1,19 @@
 -- Code is taken off what is left of a text that keeps the rules.
-use Rattle.std.proofs.Common.{◌≡◌, refl, ap, sym, subst, ◌∙◌, ℕ, zero, suc, ◌≤◌, ◌<◌, arith, List, [], ◌∷◌, ◌++◌, map, length, append_assoc, Option, None, ◌⊎◌, inl, inr}
+use Rattle.std.proofs.Common.{◌≡◌, ap, sym, ◌∙◌, ℕ, zero, suc, ◌<◌, arith, List, [], ◌∷◌, ◌++◌, map, length, append_assoc, ◌⊎◌, inl, inr}
 use Rattle.std.specs.Prelude.{codes}
 use Rattle.pure_ast.specs.declared.def.Defs.{Defs}
 use Rattle.pure_ast.specs.declared.pat.Pat.{Pat}
 use Rattle.pure_ast.specs.Code.{Code, Arms, bind, put, select, last, no_arms, more_arms}
 use Rattle.text_meaning.specs.declared.mark.Mark.TheVariants as M
-use Rattle.text_meaning.specs.Lists.{Each}
 use Rattle.text_meaning.specs.Ranges.{IsSmall}
 use Rattle.text_meaning.specs.SpelledCode.{code_tokens, arms_tokens}
 use Rattle.text_meaning.specs.SpelledNames.{var_token}
-use Rattle.text_meaning.specs.SpelledTerms.{term_tokens, pat_tokens, comp_tokens}
+use Rattle.text_meaning.specs.SpelledTerms.{pat_tokens}
 use Rattle.text_meaning.specs.Tokens.{Token, word, mark}
 use Rattle.text_meaning.specs.WellFormedCode.{IsCode, AreArms}
-use Rattle.text_meaning.specs.WellFormedTerms.{IsTerm, IsPattern, IsComp}
 use Rattle.text_grammar.specs.declared.attributed.Coming.{Coming}
 use Rattle.text_grammar.specs.declared.attributed.Coming.TheVariants as C
 use Rattle.text_grammar.specs.declared.attributed.Count.{Count}
-use Rattle.text_grammar.specs.declared.role.Role.{Role}
 use Rattle.text_grammar.specs.declared.role.Role.TheVariants as R
 use Rattle.text_grammar.specs.declared.symbol.Nonterminal.TheVariants as N
 use Rattle.text_grammar.specs.declared.symbol.Terminal.TheVariants as T
@@ -24,7 +21,6 @@ use Rattle.text_grammar.specs.Attributes.{Production, attributed, computations, 
 use Rattle.text_grammar.specs.Derivations.{IsOneOf}
 use Rattle.text_grammar.specs.Occurrences.{coming, closed}
 use Rattle.lean_reader.specs.declared.outline.Outline.{Outline}
-use Rattle.lean_reader.specs.Outlines.{environment}
 use Rattle.lean_reader.specs.Parser.{Tokens}
 use Rattle.lean_reader.specs.RuleContext.{Context}
 use Rattle.lean_reader.proofs.Left.{Left, part_left, taken, AreKept, after_all, Got}

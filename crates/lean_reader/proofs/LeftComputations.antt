@@ -26,11 +26,7 @@ use Rattle.lean_reader.specs.Outlines.{definition_of}
 use Rattle.lean_reader.specs.Parser.{Tokens}
 use Rattle.lean_reader.specs.Primitives as prim
 use Rattle.lean_reader.specs.RuleContext.{Context}
-<<<<<<< HEAD
-use Rattle.lean_reader.specs.Rules.{broken, bearers, call, by_function, by_name, by_primitive, last_place, unless}
-=======
-use Rattle.lean_reader.specs.Rules.{broken, call, by_function, by_name, by_primitive, last_place}
->>>>>>> 5134c7eb49eeaae8a0c7e1acbab7b417469c3cd5
+use Rattle.lean_reader.specs.Rules.{broken, bearers, call, by_function, by_name, by_primitive, last_place}
 use Rattle.lean_reader.specs.Outlining.{first_name}
 use Rattle.lean_reader.specs.Single as s
 use Rattle.lean_reader.specs.Tests.{place_of}
@@ -131,7 +127,7 @@ module _ (h : Outline) (all : Tokens) (c : Context) where
       let t = token_piece h all c (word (codes "ok")) T.Ok (word_stands (codes "ok")) k a.parts (C.Part N.Atom a ∷ rest) ls y.1 in
       let u = atom_whole h all c t.place a rest t.mid t.left in
       piece_got h all c comp_tokens IsComp rest ls (K.Ok u.0)
-          (piece_as h all c (λ d. comp_tokens d (K.Ok u.0)) (λ d. IsComp d (K.Ok u.0)) (joined h all c t u.1) (λ d. refl) (λ d s q. q.1))
+      (piece_as h all c (λ d. comp_tokens d (K.Ok u.0)) (λ d. IsComp d (K.Ok u.0)) (joined h all c t u.1) (λ d. refl) (λ d s q. q.1))
   computation_by k a rest ls p stop (inr (inl e)) g x =
       let y = taken h all k a rest ls c p _ e g x in
       piece_got h all c comp_tokens IsComp rest ls K.Fail (token_piece h all c (word (codes "fail")) T.Fail (word_stands (codes "fail")) k a.parts rest ls y.1)

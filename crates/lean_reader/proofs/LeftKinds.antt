@@ -28,7 +28,7 @@ use Rattle.lean_reader.specs.Rules.{definition, is_first, last_place}
 use Rattle.lean_reader.specs.Tests.{place_of}
 use Rattle.lean_reader.proofs.Agreement.{SmallPart}
 use Rattle.lean_reader.proofs.Defining.{kind_sound}
-use Rattle.lean_reader.proofs.Left.{Left, token_left, taken, reads_one}
+use Rattle.lean_reader.proofs.Left.{Left, token_left, reads_one}
 use Rattle.lean_reader.proofs.LeftNames.{name_left, implicit_comes}
 use Rattle.lean_reader.proofs.Passing.{word_stands}
 use Rattle.lean_reader.proofs.PassingRead.{unless_true}

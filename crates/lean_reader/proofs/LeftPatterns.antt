@@ -178,8 +178,8 @@ module _ (h : Outline) (all : Tokens) (c : Context) where
       let r = more_tupled (length v.1.mid) (parted (length v.1.mid)) v.1.place a.parts a.parts a rest v.1.mid (omega arith) v.1.left in
       let two : 2 ≤ length (v.0 ∷ r.first ∷ r.items) = omega arith in
       piece_got h all c pat_tokens IsPattern rest ls (P.Tuple (v.0 ∷ r.first ∷ r.items))
-          (piece_as h all c (λ d. pat_tokens d (P.Tuple (v.0 ∷ r.first ∷ r.items))) (λ d. IsPattern d (P.Tuple (v.0 ∷ r.first ∷ r.items)))
-          (joined h all c t (joined h all c v.1 r.piece)) (λ d. refl) (λ d s q. (two, q.1)))
+      (piece_as h all c (λ d. pat_tokens d (P.Tuple (v.0 ∷ r.first ∷ r.items))) (λ d. IsPattern d (P.Tuple (v.0 ∷ r.first ∷ r.items)))
+      (joined h all c t (joined h all c v.1 r.piece)) (λ d. refl) (λ d s q. (two, q.1)))
   pattern_by k a rest ls p (inr (inr (inr (inr o)))) kept x = absurd o
 
 -- a pattern is got

@@ -132,12 +132,14 @@ module _ (h : Outline) (all : Tokens) (c : Context) where
       let y = token_left h all k T.Variable (Alone R.Variable) count rest ls c x in
       let n = numbered_kept all (codes "v") y.first y.others k k y.here y.kept.0 in
       let r = numbered_stands (codes "v") y.first y.others n.0 n.1 in
-      let long = ap length y.is in
-      (n.0, record {
-        mid = y.others;
-        place = suc k;
-        reads = λ d s. reads_first ls y.others y.first (var_token n.0) y.is r.stands;
-        good = λ d s. r.small;
-        left = y.left;
-        fewer = omega arith;
-      })
+      let long = ap length y.is in (
+        n.0,
+        record {
+          mid = y.others;
+          place = suc k;
+          reads = λ d s. reads_first ls y.others y.first (var_token n.0) y.is r.stands;
+          good = λ d s. r.small;
+          left = y.left;
+          fewer = omega arith;
+        },
+      )

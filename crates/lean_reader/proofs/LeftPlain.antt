@@ -81,24 +81,28 @@ module _ (h : Outline) (all : Tokens) (c : Context) where
       let two = two_left u.first v.first v.others t.others p.0.1 (mark M.Hash) (word (int_word p.0.0.ty)) (u.is ∙ ap (λ (xs : Tokens). u.first ∷ xs) v.is) r.2 in
       let e1 = ap length t.is in
       let e2 = ap length u.is in
-      let e3 = ap length v.is in
-      (literal p.0.0, record {
-        mid = v.others;
-        place = suc (suc (suc k));
-        reads = λ d sound. reads_join ls t.others v.others (number p.0.0.value ∷ []) (mark M.Hash ∷ word (int_word p.0.0.ty) ∷ [])
-            (reads_first ls t.others t.first (number p.0.0.value) t.is (number_stands t.first.kind p.0.0.value t.good r.0)) two;
-        good = λ d sound. r.1;
-        left = v.left;
-        fewer = omega arith;
-      })
+      let e3 = ap length v.is in (
+        literal p.0.0,
+        record {
+          mid = v.others;
+          place = suc (suc (suc k));
+          reads = λ d sound. reads_join ls t.others v.others (number p.0.0.value ∷ []) (mark M.Hash ∷ word (int_word p.0.0.ty) ∷ [])
+              (reads_first ls t.others t.first (number p.0.0.value) t.is (number_stands t.first.kind p.0.0.value t.good r.0)) two;
+          good = λ d sound. r.1;
+          left = v.left;
+          fewer = omega arith;
+        },
+      )
 
   truth_piece : (b : Bool) (rest : List Coming) (ls : Tokens) → Piece h all c (λ d. term_tokens d (truth b)) (λ d. Unit {0}) rest ls → TermPiece rest ls
   truth_piece b rest ls p = (truth b, p)
 
   unit_piece : (rest : List Coming) (ls : Tokens) → Piece h all c (λ d. mark M.Unit ∷ []) (λ d. Unit {0}) rest ls → TermPiece rest ls
-  unit_piece rest ls p =
-      (tuple no_terms, piece_as h all c (λ d. term_tokens d (tuple no_terms)) (λ d. IsTerm d (tuple no_terms)) p (λ d. refl)
-      (λ d sound g. ((λ k. let j : 0 ≡ 1 = k in absurd (omega arith)), tt)))
+  unit_piece rest ls p = (
+    tuple no_terms,
+    piece_as h all c (λ d. term_tokens d (tuple no_terms)) (λ d. IsTerm d (tuple no_terms)) p (λ d. refl)
+        (λ d sound g. ((λ k. let j : 0 ≡ 1 = k in absurd (omega arith)), tt)),
+  )
 
   -- an atom that is no constructor, and then that
   pub plain_piece : (m : ℕ) → Bracketed m → (k : ℕ) (a : Count) (tail : List Attributed) (rest : List Coming) (ls : Tokens) (p : Production) → length ls ≤ m →
@@ -125,7 +129,7 @@ module _ (h : Outline) (all : Tokens) (c : Context) where
       let t = token_left h all k T.OpenBracket Nothing a.parts (C.Part N.AtomInBrackets a ∷ (map (coming k a) tail ++ rest)) ls c y.1 in
       let long = ap length t.is in
       subst (λ (xs : Tokens). TermPiece (map (coming k a) tail ++ rest) xs) (sym t.is)
-          (f t.first (suc k) a (map (coming k a) tail ++ rest) t.others (omega arith) (mark_stands M.Open t.first.kind t.good) t.left)
+      (f t.first (suc k) a (map (coming k a) tail ++ rest) t.others (omega arith) (mark_stands M.Open t.first.kind t.good) t.left)
   plain_piece m f k a tail rest ls p less (inr (inr (inr (inr (inr (inr o)))))) g x = absurd o
 
   -- a constructor without parts

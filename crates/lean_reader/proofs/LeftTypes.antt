@@ -1,5 +1,5 @@
 -- A type is read of what is left of a text.
-use Rattle.std.proofs.Common.{◌≡◌, refl, ap, sym, subst, ◌∙◌, ◌⊎◌, inl, inr, ℕ, zero, suc, ◌+◌, ◌<◌, Bool, List, [], ◌∷◌, ◌++◌, map, length, append_assoc, drop, Some, None, arith}
+use Rattle.std.proofs.Common.{◌≡◌, refl, ap, sym, subst, ◌∙◌, ◌⊎◌, inl, inr, ℕ, zero, suc, ◌+◌, ◌<◌, List, [], ◌∷◌, ◌++◌, map, length, append_assoc, drop, Some, None, arith}
 use Rattle.std.specs.Prelude.{codes}
 use Rattle.pure_ast.specs.Types.{integer, boolean, unit, product, named, exit, more_ptys, ptys_list}
 use Rattle.text_meaning.specs.declared.mark.Mark.TheVariants as M

@@ -8,7 +8,6 @@ use Rattle.text_meaning.specs.Lookups.{or_empty}
 use Rattle.text_meaning.specs.SpelledTypes.{type_tokens}
 use Rattle.text_meaning.specs.Tokens.{id}
 use Rattle.text_meaning.specs.WellFormedTypes.{IsType}
-use Rattle.text_grammar.specs.Attributes.{types}
 use Rattle.lean_reader.specs.declared.outline.Outline.{Outline}
 use Rattle.lean_reader.specs.Outlines.{environment, type_of}
 use Rattle.lean_reader.specs.RuleContext.{Context}

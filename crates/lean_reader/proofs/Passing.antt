@@ -1,15 +1,14 @@
 -- A lexeme that passes the test of a token of the grammar stands for that token.
-use Rattle.std.proofs.Common.{◌≡◌, refl, ap, sym, subst, ◌∙◌, ℕ, suc, Bool, true, false, List, [], ◌∷◌, ◌++◌, Option, Some, None}
-use Rattle.std.specs.Prelude.{◌||◌, if◌then◌else◌, bytes_eq, codes, is_some}
-use Rattle.std.specs.List.{list_any}
+use Rattle.std.proofs.Common.{◌≡◌, refl, ap, sym, ℕ, Bool, true, false, List, [], ◌∷◌, ◌++◌, Some, None}
+use Rattle.std.specs.Prelude.{◌||◌, if◌then◌else◌, bytes_eq}
 use Rattle.std.specs.Fmt.{decimal}
-use denote.Enum.Bare.{sameb, same_true}
+use denote.Enum.Bare.{same_true}
 use Rattle.text_meaning.specs.contracts.mark.Mark.{the_type}
 use Rattle.text_meaning.specs.declared.mark.Mark.{Mark}
 use Rattle.text_meaning.specs.Lookups.{or_empty}
 use Rattle.text_meaning.specs.Names.{is_bare}
 use Rattle.text_meaning.specs.Ranges.{IsSmall}
-use Rattle.text_meaning.specs.Tokens.{Token, word, id, number, mark}
+use Rattle.text_meaning.specs.Tokens.{word, id, mark}
 use Rattle.text_tokens.specs.declared.lexeme.Lexeme.{Lexeme}
 use Rattle.text_tokens.specs.declared.lexeme.LexemeKind.{LexemeKind}
 use Rattle.text_tokens.specs.declared.lexeme.LexemeKind.TheVariants.{Word, Marked, Number as Digits, Punct}
