@@ -26,7 +26,8 @@ use Rattle.lean_reader.specs.RuleContext.{Context}
 use Rattle.lean_reader.proofs.Left.{Left, Got, AreKept, after_all, part_left, taken}
 use Rattle.lean_reader.proofs.LeftConstructors.{Named, constructor_by}
 use Rattle.lean_reader.proofs.LeftPlain.{TermPiece, Bracketed, alone_piece, plain_piece, atom_piece, atom_part}
-use Rattle.lean_reader.proofs.LeftPieces.{Piece, Counted, none_counted, one_counted, all_counted, joined, piece_as, piece_got, token_piece, split_one, reads_first}
+use Rattle.lean_reader.proofs.LeftPieces.{Piece, Counted, none_counted, one_counted, all_counted, joined, piece_as, piece_got, token_piece, reads_first}
+use Rattle.lean_reader.proofs.LeftTokens.{either}
 use Rattle.lean_reader.proofs.Passing.{mark_stands}
 use Rattle.lean_reader.proofs.Standing.{Reads, reads_join}
 
@@ -132,7 +133,7 @@ module _ (h : Outline) (all : Tokens) (c : Context) where
   applied_step m n f g = λ k a rest ls less few x.
       let p = part_left h all k N.Arguments a rest ls c x in
       applied_by m n f g k a rest ls p.production (omega arith) few
-      (split_one p.production (followed atoms (more N.Arguments [])) (closing R.Constructor (T.CloseBracket ▸ []) ∷ []) p.one) p.kept p.left
+      (either p.production (followed atoms (more N.Arguments [])) (closing R.Constructor (T.CloseBracket ▸ []) ∷ []) p.one) p.kept p.left
 
   applied : (m : ℕ) → Bracketed h all c m → (n : ℕ) → Applied m n
   applied m f zero = λ k a rest ls less few x. absurd (omega arith)
@@ -204,13 +205,13 @@ module _ (h : Outline) (all : Tokens) (c : Context) where
       let n = constructor_by h all c k a (begin N.AfterConstructor []) rest ls p o kept x in
       let q = part_left h all n.place N.AfterConstructor (from k) rest n.mid c n.left in
       after_by m f l k rest ls n opens few q.production
-      (split_one q.production (followed atoms (more N.Arguments [])) (closing R.Constructor tuple_tail ∷ []) q.one) q.kept q.left
+      (either q.production (followed atoms (more N.Arguments [])) (closing R.Constructor tuple_tail ∷ []) q.one) q.kept q.left
 
   bracket_step : (m : ℕ) → Bracketed h all c m → Bracketed h all c (suc m)
   bracket_step m f = λ l k a rest ls less opens x.
       let p = part_left h all k N.AtomInBrackets a rest ls c x in
       bracket_by m f l k a rest ls p.production opens (omega arith)
-      (split_one p.production (followed plain_atoms tuple_tail) (followed constructors (begin N.AfterConstructor [])) p.one) p.kept p.left
+      (either p.production (followed plain_atoms tuple_tail) (followed constructors (begin N.AfterConstructor [])) p.one) p.kept p.left
 
   bracketed : (m : ℕ) → Bracketed h all c m
   bracketed zero = λ l k a rest ls less opens x. absurd (omega arith)

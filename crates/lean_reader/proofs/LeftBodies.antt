@@ -20,9 +20,10 @@ use Rattle.lean_reader.specs.Outlines.{environment}
 use Rattle.lean_reader.specs.Parser.{Tokens}
 use Rattle.lean_reader.specs.RuleContext.{Context, with_definitions}
 use Rattle.lean_reader.proofs.Declared.{Sound}
-use Rattle.lean_reader.proofs.Left.{Left, Got}
-use Rattle.lean_reader.proofs.LeftHeads.{implicit_parameters_left, with_parameters}
+use Rattle.lean_reader.proofs.Left.{Left}
+use Rattle.lean_reader.proofs.LeftCode.{code_left}
 use Rattle.lean_reader.proofs.LeftNames.{NoDotComes}
+use Rattle.lean_reader.proofs.LeftHeads.{implicit_parameters_left, with_parameters}
 use Rattle.lean_reader.proofs.LeftParameters.{inputs_left}
 use Rattle.lean_reader.proofs.LeftRows.{row, zero_stands, one_stands, AreFor, unnoted}
 use Rattle.lean_reader.proofs.LeftTypes.{type_left}
@@ -129,16 +130,13 @@ module _ (h : Outline) (all : Tokens) where
     pub left : Left h all place rest mid c
     pub shorter : length mid ≤ length ls
 
-  abbrev pub ReadsCode : Type 0
-  ReadsCode = (k : ℕ) (a : Count) (rest : List Coming) (ls : Tokens) (c : Context) → NoDotComes h all c rest → Left h all k (C.Part N.Code a ∷ rest) ls c → Got h all code_tokens IsCode rest ls c
-
-  pub body_left : ReadsCode → (k : ℕ) (a : Count) (rest : List Coming) (ls : Tokens) (c : Context) → NoDotComes h all c rest → Left h all k (body_symbols a rest) ls c → BodyLeft rest ls c
-  body_left code_left k a rest ls c stop x =
+  pub body_left : (k : ℕ) (a : Count) (rest : List Coming) (ls : Tokens) (c : Context) → NoDotComes h all c rest → Left h all k (body_symbols a rest) ls c → BodyLeft rest ls c
+  body_left k a rest ls c stop x =
       let after_type = map (unnoted a.parts) match_terminals ++ C.Part N.Code a ∷ rest in
       let colon = row h all (T.Colon ∷ T.Result ∷ []) (mark M.Colon ∷ word (codes "Result") ∷ []) (mark_stands M.Colon, (word_stands (codes "Result"), tt)) k a.parts (C.Part N.Type a ∷ after_type) ls c x in
       let result = type_left h all colon.place a after_type colon.mid c colon.left in
       let match_ = row h all match_terminals (mark M.Becomes ∷ spelled.fuel_match) match_stand result.place a.parts (C.Part N.Code a ∷ rest) result.mid c result.left in
-      let code = code_left match_.place a rest match_.mid c stop match_.left in
+      let code = code_left h all match_.place a rest match_.mid c stop match_.left in
       record {
         result = result.item;
         code = code.item;

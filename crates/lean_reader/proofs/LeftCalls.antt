@@ -20,7 +20,8 @@ use Rattle.lean_reader.specs.RuleContext.{Context}
 use Rattle.lean_reader.proofs.Declared.{Sound}
 use Rattle.lean_reader.proofs.Left.{Left, AreKept, after_all, part_left, taken}
 use Rattle.lean_reader.proofs.LeftAtoms.{any_atom}
-use Rattle.lean_reader.proofs.LeftPieces.{Counted, none_counted, one_counted, split_one}
+use Rattle.lean_reader.proofs.LeftPieces.{Counted, none_counted, one_counted}
+use Rattle.lean_reader.proofs.LeftTokens.{either}
 use Rattle.lean_reader.proofs.Standing.{Reads, reads_join, nothing}
 
 module _ (h : Outline) (all : Tokens) (c : Context) where
@@ -73,7 +74,7 @@ module _ (h : Outline) (all : Tokens) (c : Context) where
   listed_step : (n : ℕ) → Listed n → Listed (suc n)
   listed_step n f = λ k a rest ls less x.
       let p = part_left h all k N.Atoms a rest ls c x in
-      listed_by n f k a rest ls p.production (omega arith) (split_one p.production (followed atoms (more N.Atoms [])) (closing R.Call [] ∷ []) p.one) p.kept p.left
+      listed_by n f k a rest ls p.production (omega arith) (either p.production (followed atoms (more N.Atoms [])) (closing R.Call [] ∷ []) p.one) p.kept p.left
 
   listed : (n : ℕ) → Listed n
   listed zero = λ k a rest ls less x. absurd (omega arith)

@@ -21,6 +21,7 @@ use Rattle.text_grammar.specs.Attributes.{Production, attributed, computations, 
 use Rattle.text_grammar.specs.Derivations.{IsOneOf}
 use Rattle.text_grammar.specs.Occurrences.{coming, closed}
 use Rattle.lean_reader.specs.declared.outline.Outline.{Outline}
+use Rattle.lean_reader.specs.Outlines.{environment}
 use Rattle.lean_reader.specs.Parser.{Tokens}
 use Rattle.lean_reader.specs.RuleContext.{Context}
 use Rattle.lean_reader.proofs.Left.{Left, part_left, taken, AreKept, after_all, Got}
@@ -29,7 +30,9 @@ use Rattle.lean_reader.proofs.LeftComputations.{computation_got, computation_lef
 use Rattle.lean_reader.proofs.LeftDots.{semicolon_comes, arms_come}
 use Rattle.lean_reader.proofs.LeftNames.{NoDotComes}
 use Rattle.lean_reader.proofs.LeftPatterns.{pattern_left}
-use Rattle.lean_reader.proofs.LeftRows.{row, variable_left}
+use Rattle.lean_reader.proofs.Declared.{Sound}
+use Rattle.lean_reader.proofs.LeftPieces.{variable_piece}
+use Rattle.lean_reader.proofs.LeftRows.{row}
 use Rattle.lean_reader.proofs.LeftTokens.{either}
 use Rattle.lean_reader.proofs.Passing.{word_stands, mark_stands}
 use Rattle.lean_reader.proofs.Standing.{Reads, reads_join, reads_same}
@@ -93,14 +96,14 @@ module _ (h : Outline) (all : Tokens) where
   arms_by n codes_left arms_left k a rest ls c l p (inr (inr e)) g x = absurd e
 
   -- what is bound to a variable, and the code after it
-  bound_by : (n : ℕ) → Codes n → (k : ℕ) (a : Count) (rest : List Coming) (start ls : Tokens) (c : Context) (v : ℕ) → IsSmall v → length start < suc n → length ls < length start → NoDotComes h all c rest →
-      Reads start ls (word (codes "let") ∷ var_token v ∷ []) →
+  bound_by : (n : ℕ) → Codes n → (k : ℕ) (a : Count) (rest : List Coming) (start ls : Tokens) (c : Context) (v : ℕ) → ((d : Defs) → Sound (environment h) d → IsSmall v) → length start < suc n → length ls < length start → NoDotComes h all c rest →
+      ((d : Defs) → Sound (environment h) d → Reads start ls (word (codes "let") ∷ var_token v ∷ [])) →
       (p : Production) → IsOneOf p (attributed N.Bound) → AreKept h all c (closed a p.closes) → Left h all k (map (coming k a) p.symbols ++ rest) ls (after_all h all c (closed a p.closes)) →
       Got h all code_tokens IsCode rest start c
   bound_by n codes_left k a rest start ls c v small l less stop r p (inl e) g x =
       let t = taken h all k a rest ls c p _ e g x in
       let from = row h all (T.From ∷ []) (mark M.From ∷ []) (mark_stands M.From, tt) k a.parts _ ls c t.1 in
-      let comp = computation_left h all from.place a _ from.mid c (semicolon_comes h all c a.parts _) from.left in
+      let comp = computation_left h all from.place a _ from.mid c (semicolon_comes h all c a.parts (C.Part N.Code a ∷ rest)) from.left in
       let end = row h all (T.Semicolon ∷ []) (mark M.Semicolon ∷ []) (mark_stands M.Semicolon, tt) comp.place a.parts _ comp.mid c comp.left in
       let code = codes_left end.place a rest end.mid c (omega (arith, l, less, from.shorter, comp.shorter, end.shorter)) stop end.left in
       record {
@@ -108,11 +111,11 @@ module _ (h : Outline) (all : Tokens) where
         mid = code.mid;
         place = code.place;
         reads = λ d s.
-            reads_join start ls code.mid _ _ r
+            reads_join start ls code.mid _ _ (r d s)
             (reads_join ls from.mid code.mid _ _ from.reads
             (reads_join from.mid comp.mid code.mid _ _ (comp.reads d s)
             (reads_join comp.mid end.mid code.mid _ _ end.reads (code.reads d s))));
-        good = λ d s. (small, comp.good d s, code.good d s);
+        good = λ d s. (small d s, comp.good d s, code.good d s);
         left = code.left;
         shorter = omega (arith, less, from.shorter, comp.shorter, end.shorter, code.shorter);
       }
@@ -127,11 +130,11 @@ module _ (h : Outline) (all : Tokens) where
         mid = code.mid;
         place = code.place;
         reads = λ d s.
-            reads_join start ls code.mid _ _ r
+            reads_join start ls code.mid _ _ (r d s)
             (reads_join ls is.mid code.mid _ _ is.reads
             (reads_join is.mid atom.mid code.mid _ _ (atom.reads d s)
             (reads_join atom.mid end.mid code.mid _ _ end.reads (code.reads d s))));
-        good = λ d s. (small, atom.good d s, code.good d s);
+        good = λ d s. (small d s, atom.good d s, code.good d s);
         left = code.left;
         shorter = omega (arith, less, is.shorter, atom.shorter, end.shorter, code.shorter);
       }
@@ -147,9 +150,10 @@ module _ (h : Outline) (all : Tokens) where
   other_by n codes_left arms_left k a rest ls c l stop p (inl e) g x =
       let t = taken h all k a rest ls c p _ e g x in
       let let_ = row h all (T.Let ∷ []) (word (codes "let") ∷ []) (word_stands (codes "let"), tt) k a.parts _ ls c t.1 in
-      let v = variable_left h all let_.place a.parts _ let_.mid c let_.left in
+      let w = variable_piece h all c let_.place a.parts (C.Part N.Bound a ∷ rest) let_.mid let_.left in
+      let v = w.1 in
       let b = part_left h all v.place N.Bound a rest v.mid c v.left in
-      bound_by n codes_left v.place a rest ls v.mid c v.number v.small l (omega (arith, let_.shorter, v.shorter)) stop (reads_join ls let_.mid v.mid _ _ let_.reads v.reads) b.production b.one b.kept b.left
+      bound_by n codes_left v.place a rest ls v.mid c w.0 v.good l (omega (arith, let_.shorter, v.fewer)) stop (λ d s. reads_join ls let_.mid v.mid _ _ let_.reads (v.reads d s)) b.production b.one b.kept b.left
   other_by n codes_left arms_left k a rest ls c l stop p (inr (inl e)) g x =
       let t = taken h all k a rest ls c p _ e g x in
       let open_ = row h all (T.OpenBracket ∷ T.Match ∷ []) (mark M.Open ∷ word (codes "match") ∷ []) (mark_stands M.Open, (word_stands (codes "match"), tt)) k a.parts _ ls c t.1 in

@@ -26,7 +26,7 @@ use Rattle.lean_reader.specs.Outlines.{definition_of}
 use Rattle.lean_reader.specs.Parser.{Tokens}
 use Rattle.lean_reader.specs.Primitives as prim
 use Rattle.lean_reader.specs.RuleContext.{Context}
-use Rattle.lean_reader.specs.Rules.{broken, bearers, call, by_function, by_name, by_primitive, last_place}
+use Rattle.lean_reader.specs.Rules.{bearers, broken, call, by_function, by_name, by_primitive, last_place}
 use Rattle.lean_reader.specs.Outlining.{first_name}
 use Rattle.lean_reader.specs.Single as s
 use Rattle.lean_reader.specs.Tests.{place_of}

@@ -30,7 +30,7 @@ use Rattle.lean_reader.specs.RuleContext.{Context}
 use Rattle.lean_reader.specs.Single as s
 use Rattle.lean_reader.proofs.Left.{Left, AreKept, after_all, token_left, part_left, taken}
 use Rattle.lean_reader.proofs.LeftNames.{NoDotComes}
-use Rattle.lean_reader.proofs.LeftPieces.{split_one}
+use Rattle.lean_reader.proofs.LeftTokens.{either}
 use Rattle.lean_reader.proofs.PassingRead.{word_no_mark}
 
 -- lexemes that are no dot
@@ -110,7 +110,7 @@ module _ (h : Outline) (all : Tokens) (c : Context) where
   pub atoms_come : (a : Count) (rest : List Coming) → NoDotComes h all c rest → NoDotComes h all c (C.Part N.Atoms a ∷ rest)
   atoms_come a rest stop = λ k ls x.
       let p = part_left h all k N.Atoms a rest ls c x in
-      atoms_by k a rest ls p.production stop (split_one p.production (followed atoms (more N.Atoms [])) (closing R.Call [] ∷ []) p.one) p.kept p.left
+      atoms_by k a rest ls p.production stop (either p.production (followed atoms (more N.Atoms [])) (closing R.Call [] ∷ []) p.one) p.kept p.left
 
   -- what comes after a computation
   pub semicolon_comes : (count : ℕ) (rest : List Coming) → NoDotComes h all c (C.Token T.Semicolon Nothing count ∷ rest)

@@ -19,7 +19,8 @@ use Rattle.lean_reader.specs.Parser.{Tokens}
 use Rattle.lean_reader.specs.RuleContext.{Context}
 use Rattle.lean_reader.specs.Rules.{same_parameter}
 use Rattle.lean_reader.proofs.Left.{Left, AreKept, after_all, part_left, taken}
-use Rattle.lean_reader.proofs.LeftTokens.{unless_kept, name_next}
+use Rattle.lean_reader.proofs.LeftTokens.{name_next}
+use Rattle.lean_reader.proofs.PassingRead.{unless_true}
 use Rattle.lean_reader.proofs.Numbers.{and_left, and_right}
 use Rattle.lean_reader.proofs.Singles.{same_bytes}
 use Rattle.lean_reader.proofs.Standing.{Reads, reads_same, nothing}
@@ -40,7 +41,7 @@ one_after (x ∷ xs) (suc k) n e = one_after xs k n e
 -- the parameter that the rule wants
 parameter_is : (o : Option (List ℕ)) (m x : List ℕ) (place : ℕ) → o ≡ Some x → same_parameter o m place ≡ None → x ≡ m
 parameter_is None m x place e h = absurd cc
-parameter_is (Some y) m x place e h = let q : y ≡ x = cc in sym q ∙ same_bytes y m (unless_kept (bytes_eq y m) place h)
+parameter_is (Some y) m x place e h = let q : y ≡ x = cc in sym q ∙ same_bytes y m (unless_true (bytes_eq y m) place h)
 
 module _ (h : Outline) (all : Tokens) where
   -- the parameters at the end of a variant, those after the first ones
@@ -84,7 +85,7 @@ module _ (h : Outline) (all : Tokens) where
   end_step m later k a p rest ls c small (inr (inl e)) kept x =
       let y = taken h all k a rest ls c p (closing R.VariantEnd []) e kept x in
       let n = first_name (drop a.start all) in
-      let f = unless_kept (bytes_eq n c.name && (a.parts == length c.parameters)) a.start y.0.0 in
+      let f = unless_true (bytes_eq n c.name && (a.parts == length c.parameters)) a.start y.0.0 in
       let count = eqb-true a.parts (length c.parameters) (and_right (bytes_eq n c.name) (a.parts == length c.parameters) f) in
       record {
         room = omega (arith, count);

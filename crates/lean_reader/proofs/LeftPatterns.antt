@@ -30,7 +30,8 @@ use Rattle.lean_reader.proofs.Computing.{comma_one}
 use Rattle.lean_reader.proofs.Declared.{Sound}
 use Rattle.lean_reader.proofs.Left.{Left, Got, AreKept, after_all, part_left, taken}
 use Rattle.lean_reader.proofs.LeftConstructors.{constructor_by}
-use Rattle.lean_reader.proofs.LeftPieces.{Piece, Counted, none_counted, one_counted, all_counted, joined, piece_as, piece_got, token_piece, variable_piece, split_one}
+use Rattle.lean_reader.proofs.LeftPieces.{Piece, Counted, none_counted, one_counted, all_counted, joined, piece_as, piece_got, token_piece, variable_piece}
+use Rattle.lean_reader.proofs.LeftTokens.{either}
 use Rattle.lean_reader.proofs.Passing.{word_stands, mark_stands}
 use Rattle.lean_reader.proofs.Standing.{Reads, reads_join, nothing}
 
@@ -187,4 +188,4 @@ pub pattern_left : (h : Outline) (all : Tokens) (k : ℕ) (a : Count) (rest : Li
     Left h all k (C.Part N.Pattern a ∷ rest) ls c → Got h all pat_tokens IsPattern rest ls c
 pattern_left h all k a rest ls c x =
     let p = part_left h all k N.Pattern a rest ls c x in
-    pattern_by h all c k a rest ls p.production (split_one p.production (followed constructors (begin N.Variables [])) (other_patterns h all c) p.one) p.kept p.left
+    pattern_by h all c k a rest ls p.production (either p.production (followed constructors (begin N.Variables [])) (other_patterns h all c) p.one) p.kept p.left

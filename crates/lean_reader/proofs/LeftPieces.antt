@@ -1,5 +1,5 @@
 -- Pieces of a text that are taken off what is left of it, one after another, under the same context.
-use Rattle.std.proofs.Common.{◌≡◌, ap, subst, ℕ, suc, ◌+◌, ◌<◌, arith, true, List, [], ◌∷◌, ◌++◌, length, ◌⊎◌, inl, inr, None}
+use Rattle.std.proofs.Common.{◌≡◌, ap, subst, ℕ, suc, ◌+◌, ◌<◌, arith, true, List, [], ◌∷◌, ◌++◌, length, None}
 use Rattle.std.specs.Prelude.{codes}
 use Rattle.pure_ast.specs.declared.def.Defs.{Defs}
 use Rattle.text_meaning.specs.Ranges.{IsSmall}
@@ -17,8 +17,6 @@ use Rattle.text_grammar.specs.declared.role.Role.{Role}
 use Rattle.text_grammar.specs.declared.role.Role.TheVariants as R
 use Rattle.text_grammar.specs.declared.symbol.Terminal.{Terminal}
 use Rattle.text_grammar.specs.declared.symbol.Terminal.TheVariants as T
-use Rattle.text_grammar.specs.Attributes.{Production}
-use Rattle.text_grammar.specs.Derivations.{IsOneOf}
 use Rattle.text_grammar.specs.Occurrences.{occurrence, from, counted}
 use Rattle.text_grammar.specs.Tests.{passes}
 use Rattle.lean_reader.specs.declared.outline.Outline.{Outline}
@@ -31,16 +29,6 @@ use Rattle.lean_reader.proofs.Left.{Left, Got, token_left}
 use Rattle.lean_reader.proofs.Passing.{numbered_stands}
 use Rattle.lean_reader.proofs.PassingRead.{numbered_kept}
 use Rattle.lean_reader.proofs.Standing.{Reads, reads_join}
-
--- one of the first or one of the others
-split_more : (p x : Production) (xs ys : List Production) → IsOneOf p xs ⊎ IsOneOf p ys → IsOneOf p (x ∷ xs) ⊎ IsOneOf p ys
-split_more p x xs ys (inl o) = inl (inr o)
-split_more p x xs ys (inr o) = inr o
-
-pub split_one : (p : Production) (xs ys : List Production) → IsOneOf p (xs ++ ys) → IsOneOf p xs ⊎ IsOneOf p ys
-split_one p [] ys o = inr o
-split_one p (x ∷ xs) ys (inl e) = inl (inl e)
-split_one p (x ∷ xs) ys (inr o) = split_more p x xs ys (split_one p xs ys o)
 
 -- the first lexeme stands for this token
 pub reads_first : (ls others : Tokens) (l : Lexeme) (t : Token) → ls ≡ l ∷ others → Stands l.kind t → Reads ls others (t ∷ [])

@@ -34,7 +34,8 @@ use Rattle.lean_reader.specs.Single as s
 use Rattle.lean_reader.proofs.Heads.{typed_sound}
 use Rattle.lean_reader.proofs.Left.{Left, AreKept, after_all, token_left, part_left, taken}
 use Rattle.lean_reader.proofs.LeftConstructors.{Named, name_dot_name, exit_dot_way}
-use Rattle.lean_reader.proofs.LeftPieces.{Piece, piece_as, token_piece, variable_piece, split_one, reads_first}
+use Rattle.lean_reader.proofs.LeftPieces.{Piece, piece_as, token_piece, variable_piece, reads_first}
+use Rattle.lean_reader.proofs.LeftTokens.{either}
 use Rattle.lean_reader.proofs.Passing.{word_stands, mark_stands}
 use Rattle.lean_reader.proofs.PassingRead.{some_of, unless_true}
 use Rattle.lean_reader.proofs.Standing.{Reads, reads_join}
@@ -162,7 +163,7 @@ module _ (h : Outline) (all : Tokens) (c : Context) where
       IsOneOf p (followed atoms tail) → AreKept h all c (closed a p.closes) → Left h all k (map (coming k a) p.symbols ++ rest) ls (after_all h all c (closed a p.closes)) →
       TermPiece (map (coming k a) tail ++ rest) ls
   atom_piece m f k a tail rest ls p less o g x =
-      atom_by m f k a tail rest ls p less (split_one p (followed plain_atoms tail) (named_atoms tail) o) g x
+      atom_by m f k a tail rest ls p less (either p (followed plain_atoms tail) (named_atoms tail) o) g x
 
   pub atom_part : (m : ℕ) → Bracketed m → (k : ℕ) (a : Count) (rest : List Coming) (ls : Tokens) → length ls ≤ m → Left h all k (C.Part N.Atom a ∷ rest) ls c → TermPiece rest ls
   atom_part m f k a rest ls less x =

@@ -1,27 +1,22 @@
--- Tokens without a role, and variables, are taken off what is left of a text that keeps the rules.
-use Rattle.std.proofs.Common.{◌≡◌, ap, sym, subst, ◌∙◌, ℕ, suc, ◌+◌, ◌≤◌, ◌<◌, arith, true, List, [], ◌∷◌, ◌++◌, map, length, pos}
+-- Several tokens without a role are taken off what is left of a text that keeps the rules.
+use Rattle.std.proofs.Common.{◌≡◌, ap, sym, subst, ◌∙◌, ℕ, suc, ◌+◌, ◌≤◌, arith, true, List, [], ◌∷◌, ◌++◌, map, length, pos}
 use Rattle.std.specs.Prelude.{codes}
 use Rattle.std.specs.Fmt.{decimal}
 use Rattle.std.proofs.lemmas.Fmt.{decimal_digit}
-use Rattle.text_meaning.specs.Ranges.{IsSmall}
-use Rattle.text_meaning.specs.SpelledNames.{var_token}
 use Rattle.text_meaning.specs.Tokens.{Token, number}
 use Rattle.text_tokens.specs.declared.lexeme.LexemeKind.{LexemeKind}
 use Rattle.text_tokens.specs.declared.lexeme.LexemeKind.TheVariants.{Word, Marked, Number as Digits, Punct}
 use Rattle.text_tokens.specs.Stands.{Stands}
 use Rattle.text_grammar.specs.declared.attributed.Coming.{Coming}
 use Rattle.text_grammar.specs.declared.attributed.Coming.TheVariants as C
-use Rattle.text_grammar.specs.declared.attributed.Noting.TheVariants.{Nothing, Alone}
-use Rattle.text_grammar.specs.declared.role.Role.TheVariants as R
+use Rattle.text_grammar.specs.declared.attributed.Noting.TheVariants.{Nothing}
 use Rattle.text_grammar.specs.declared.symbol.Terminal.{Terminal}
 use Rattle.text_grammar.specs.declared.symbol.Terminal.TheVariants as T
 use Rattle.text_grammar.specs.Tests as t
 use Rattle.lean_reader.specs.declared.outline.Outline.{Outline}
 use Rattle.lean_reader.specs.Parser.{Tokens}
 use Rattle.lean_reader.specs.RuleContext.{Context}
-use Rattle.lean_reader.proofs.Left.{Left, token_left, reads_one, reads_on}
-use Rattle.lean_reader.proofs.Passing.{numbered_stands}
-use Rattle.lean_reader.proofs.PassingRead.{numbered_kept}
+use Rattle.lean_reader.proofs.Left.{Left, token_left, reads_on}
 use Rattle.lean_reader.proofs.Singles.{same_bytes}
 use Rattle.lean_reader.proofs.Standing.{Reads, nothing}
 
@@ -76,30 +71,4 @@ module _ (h : Outline) (all : Tokens) where
         reads = subst (λ z. Reads z r.mid (u ∷ us)) (sym f.is) (reads_on f.first f.others r.mid u us (g.0 f.first.kind f.good) r.reads);
         left = r.left;
         shorter = omega (arith, r.shorter, e);
-      }
-
-  -- a variable
-  pub record VariableLeft (rest : List Coming) (ls : Tokens) (c : Context) : Type 0 where
-    pub number : ℕ
-    pub mid : Tokens
-    pub place : ℕ
-    pub reads : Reads ls mid (var_token number ∷ [])
-    pub small : IsSmall number
-    pub left : Left h all place rest mid c
-    pub shorter : length mid < length ls
-
-  pub variable_left : (k count : ℕ) (rest : List Coming) (ls : Tokens) (c : Context) → Left h all k (C.Token T.Variable (Alone R.Variable) count ∷ rest) ls c → VariableLeft rest ls c
-  variable_left k count rest ls c x =
-      let f = token_left h all k T.Variable (Alone R.Variable) count rest ls c x in
-      let v = numbered_kept all (codes "v") f.first f.others k k f.here f.kept.0 in
-      let s = numbered_stands (codes "v") f.first f.others v.0 v.1 in
-      let e = ap length f.is in
-      record {
-        number = v.0;
-        mid = f.others;
-        place = suc k;
-        reads = subst (λ z. Reads z f.others (var_token v.0 ∷ [])) (sym f.is) (reads_one f.first f.others (var_token v.0) s.stands);
-        small = s.small;
-        left = f.left;
-        shorter = omega (arith, e);
       }

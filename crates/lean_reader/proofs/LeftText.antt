@@ -17,9 +17,7 @@ use Rattle.lean_reader.proofs.Declared.{IsRuled, AreDefined, text_tokens}
 use Rattle.lean_reader.proofs.Growing.{known}
 use Rattle.lean_reader.proofs.Left.{Left, AreKept, after_all, part_left, taken}
 use Rattle.lean_reader.proofs.LeftDeclarations.{types_left}
-use Rattle.lean_reader.proofs.LeftCode.{code_left}
 use Rattle.lean_reader.proofs.LeftDefinitions.{definitions_left}
-use Rattle.lean_reader.proofs.LeftDots.{definitions_come}
 use Rattle.lean_reader.proofs.LeftRows.{row}
 use Rattle.lean_reader.proofs.Passing.{word_stands}
 use Rattle.lean_reader.proofs.Standing.{Reads, reads_join}
@@ -44,7 +42,7 @@ module _ (all : Tokens) where
       let header = row h all (T.Import ∷ T.AenPrelude ∷ T.Open ∷ T.AenPrelude ∷ []) (word (codes "import") ∷ word (codes "AenPrelude") ∷ word (codes "open") ∷ word (codes "AenPrelude") ∷ [])
       (word_stands (codes "import"), (word_stands (codes "AenPrelude"), (word_stands (codes "open"), (word_stands (codes "AenPrelude"), tt)))) 0 0 _ all nothing_yet t.1 in
       let ts = types_left h all header.place (from 0) _ header.mid nothing_yet header.left in
-      let xs = definitions_left h all (known all) (code_left h all) ts.place (from 0) [] ts.mid ts.then (λ c. definitions_come h all c (from 0)) ts.left in
+      let xs = definitions_left h all (known all) ts.place (from 0) ts.mid ts.then ts.left in
       let end = nothing_by xs.place xs.mid xs.left.occurrences xs.left.occur in
       let counted = subst (λ (n : ℕ). AreDefined h n ts.then.definitions xs.defs) (none_before ts.then.types (length ts.types) ts.types_then) xs.defined in
       record {

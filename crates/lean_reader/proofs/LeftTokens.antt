@@ -1,5 +1,5 @@
 -- Words, punctuation, names and integer types taken off what is left of a text.
-use Rattle.std.proofs.Common.{◌≡◌, refl, ap, sym, subst, ◌∙◌, ◌⊎◌, inl, inr, ℕ, suc, Bool, true, false, List, [], ◌∷◌, ◌++◌, length, drop, None}
+use Rattle.std.proofs.Common.{◌≡◌, refl, ap, sym, subst, ◌∙◌, ◌⊎◌, inl, inr, ℕ, suc, Bool, true, false, List, [], ◌∷◌, ◌++◌, length, drop}
 use Rattle.std.specs.Prelude.{◌||◌, bytes_eq}
 use Rattle.std.specs.List.{list_any}
 use Rattle.aen_base.specs.declared.int_ty.IntTy.{IntTy}
@@ -23,7 +23,6 @@ use Rattle.lean_reader.specs.declared.outline.Outline.{Outline}
 use Rattle.lean_reader.specs.Outlining.{first_name}
 use Rattle.lean_reader.specs.Parser.{Tokens}
 use Rattle.lean_reader.specs.RuleContext.{Context}
-use Rattle.lean_reader.specs.Rules.{unless}
 use Rattle.lean_reader.proofs.Left.{Left, AreKept, after_all, token_left, reads_on}
 use Rattle.lean_reader.proofs.Passing.{word_stands, mark_stands, name_stands}
 use Rattle.lean_reader.proofs.Singles.{same_bytes}
@@ -43,11 +42,6 @@ pub among_first : {A : Type 0} (x : A) (xs ys : List A) → IsOneOf x xs → IsO
 among_first x [] ys h = absurd h
 among_first x (z ∷ xs) ys (inl e) = inl e
 among_first x (z ∷ xs) ys (inr h) = inr (among_first x xs ys h)
-
--- a rule that is kept
-pub unless_kept : (b : Bool) (place : ℕ) → unless b place ≡ None → b ≡ true
-unless_kept true place h = refl
-unless_kept false place h = absurd cc
 
 -- the word of an integer type
 or_true : (a b : Bool) → a || b ≡ true → (a ≡ true) ⊎ (b ≡ true)

@@ -87,7 +87,6 @@ pub mod LeftDefinitions
 pub mod LeftEnds
 pub mod LeftVariants
 pub mod LeftDeclarations
-pub mod KeptRules
 pub mod LeftText
 pub mod LeftPieces
 pub mod LeftConstructors
@@ -100,3 +99,4 @@ pub mod LeftDots
 pub mod PrimitivesPassing
 pub mod LeftPrimitives
 pub mod LeftComputations
+pub mod KeptRules

@@ -14,7 +14,7 @@ use Rattle.lean_reader.specs.RuleContext.{Context}
 use Rattle.lean_reader.specs.Rules.{unless, has_parts, type_name}
 use Rattle.lean_reader.specs.Tests.{place_of}
 use Rattle.lean_reader.proofs.Declared.{Sound}
-use Rattle.lean_reader.proofs.LeftTokens.{unless_kept}
+use Rattle.lean_reader.proofs.PassingRead.{unless_true}
 use Rattle.lean_reader.proofs.Testing.{place_sound, within}
 
 -- a name that is a type parameter, and then has no arguments
@@ -32,11 +32,11 @@ module _ (h : Outline) where
 
   known_by : (n : List ℕ) (count place : ℕ) (q : Option (ℕ × ℕ)) → type_of h n ≡ q → has_parts q count place ≡ None → TypeNamed n count
   known_by n count place None e g = absurd cc
-  known_by n count place (Some p) e g = record { head = p; is = e; count_is = eqb-true p.1 count (unless_kept (p.1 == count) place g) }
+  known_by n count place (Some p) e g = record { head = p; is = e; count_is = eqb-true p.1 count (unless_true (p.1 == count) place g) }
 
   used_by : (c : Context) (n : List ℕ) (count place : ℕ) (o : Option ℕ) → place_of c.parameters n ≡ o →
       (if is_some o then unless (count == 0) place else has_parts (type_of h n) count place) ≡ None → ParameterNamed c n count ⊎ TypeNamed n count
-  used_by c n count place (Some j) e g = inl (record { at = j; is = place_sound c.parameters n j e; none = eqb-true count 0 (unless_kept (count == 0) place g) })
+  used_by c n count place (Some j) e g = inl (record { at = j; is = place_sound c.parameters n j e; none = eqb-true count 0 (unless_true (count == 0) place g) })
   used_by c n count place None e g = inr (known_by n count place (type_of h n) refl g)
 
   -- what the rule on a type's name says
