@@ -5,8 +5,8 @@ use Rattle.aen_io.specs.Told.{Told}
 use Rattle.call_frame.specs.Arguments.{IsReading}
 use Rattle.call_frame.specs.declared.words.ArgFault.{ArgFault}
 use Rattle.call_frame.specs.declared.words.ArgFault.TheVariants.{WrongCount, BadValue, Memory}
-use Rattle.rust_ast.specs.declared.function.Function.{Function}
-use Rattle.rust_ast.specs.declared.function.Program.{Program}
+use Rattle.sums_ast.specs.declared.function.Function.{Function}
+use Rattle.sums_ast.specs.declared.function.Program.{Program}
 use Rattle.aeneas.specs.Lines.{count_line}
 use Rattle.aeneas.specs.Run.{FaultReply, CallReply}
 use Rattle.aeneas.specs.declared.source.Source.{Source}

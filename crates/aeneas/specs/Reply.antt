@@ -2,7 +2,7 @@
 -- (PROMISES.md, "Safe and total").
 use Rattle.std.specs.Prelude.{◌≡◌, ℕ, ◌⊎◌, List}
 use Rattle.aen_io.specs.Told.{Told}
-use Rattle.rust_ast.specs.declared.function.Program.{Program}
+use Rattle.sums_ast.specs.declared.function.Program.{Program}
 use Rattle.aeneas.specs.Words.{IsTranslate, IsRun, IsEval, HasNoForm, fuel_of}
 use Rattle.aeneas.specs.Lines.{usage_line}
 use Rattle.aeneas.specs.Source.{SourceRefusal, IsSource}

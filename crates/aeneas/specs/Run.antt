@@ -7,8 +7,8 @@ use Rattle.call_frame.specs.declared.words.ArgFault.TheVariants.{WrongCount, Bad
 use Rattle.call_frame.specs.Named.{IsNamed, NoneNamed}
 use Rattle.call_frame.specs.Written.{word_value}
 use Rattle.pure_ast.specs.Values.{PValue}
-use Rattle.rust_ast.specs.declared.function.Function.{Function}
-use Rattle.rust_ast.specs.declared.function.Program.{Program}
+use Rattle.sums_ast.specs.declared.function.Function.{Function}
+use Rattle.sums_ast.specs.declared.function.Program.{Program}
 use Rattle.source_meaning.specs.declared.outcome.Outcome.{Outcome}
 use Rattle.source_meaning.specs.declared.outcome.Outcome.TheVariants as O
 use Rattle.source_meaning.specs.Calling.{call_outcome}

@@ -2,7 +2,7 @@
 -- (PROMISES.md, "Safe and total").
 use Rattle.std.specs.Prelude.{◌≡◌, ℕ, ◌<◌, ◌≤◌, ◌⊎◌, List, length}
 use Rattle.aen_io.specs.Told.{Told, OfContent, FaultAt}
-use Rattle.rust_ast.specs.declared.function.Program.{Program}
+use Rattle.sums_ast.specs.declared.function.Program.{Program}
 use Rattle.source_meaning.specs.Grammar.{Reads}
 use Rattle.source_meaning.specs.Typing.{IsTyped}
 use Rattle.aeneas.specs.Lines.{read_line, syntax_line, source_line}

@@ -1,7 +1,7 @@
 -- A text is the translation of a content (PROMISES.md, "The translation means the program").
 use Rattle.std.specs.Prelude.{ℕ, List}
 use Rattle.pure_ast.specs.declared.def.Defs.{Defs}
-use Rattle.rust_ast.specs.declared.function.Program.{Program}
+use Rattle.sums_ast.specs.declared.function.Program.{Program}
 use Rattle.text_meaning.specs.Reading.{ReadsText}
 use Rattle.translate.specs.Lists.{Lists}
 use Rattle.translate.specs.Means.{Means}

@@ -11,8 +11,8 @@ use aen_base::{FnId, NoMem, Text, at};
 use aen_io::Files;
 use call_frame::{ArgFault, Outcome, arguments, function_named, print_value};
 use pointer_machine::run;
-use rust_ast::Program;
 use std::alloc::Global;
+use sums_ast::Program;
 
 /// `run FILE FN FUEL VALUE..`. The only error is want of memory.
 pub fn run_file<F: Files>(

@@ -4,9 +4,9 @@ ghost use Rattle.aeneas.specs.SourceFound.{IsFound, IsFoundIn};
 use crate::reply::{Reply, one_line};
 use aen_base::NoMem;
 use aen_io::{Files, ReadAll, read_all};
-use rust_ast::Program;
-use rust_reader::{ReadFault, read};
 use std::alloc::Global;
+use sums_ast::Program;
+use sums_reader::{ReadFault, read};
 
 /// The most bytes of a source.
 const SOURCE_LIMIT: u64 = 1_048_576;

@@ -8,8 +8,8 @@ use crate::source::{Source, source_of};
 use aen_base::{NoMem, Text};
 use aen_io::Files;
 use lean_printer::print;
-use rust_ast::Program;
 use std::alloc::Global;
+use sums_ast::Program;
 use translate::translate;
 
 /// `translate FILE`. The only error is want of memory.

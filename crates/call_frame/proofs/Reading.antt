@@ -12,7 +12,7 @@ use Rattle.aen_base.specs.declared.int_ty.IntTy.TheVariants.{U32}
 use Rattle.aen_base.specs.Numbers.{Number}
 use Rattle.aen_base.specs.Arithmetic.{number as number_of}
 use Rattle.std.specs.Prelude.{pos}
-use Rattle.rust_ast.specs.declared.function.Function.{Function}
+use Rattle.sums_ast.specs.declared.function.Function.{Function}
 use Rattle.source_meaning.specs.Calling.{IsU32Value, AreU32Values, AreArguments}
 use Rattle.call_frame.specs.Written.{word_number, word_value, written}
 use Rattle.call_frame.proofs.Digits.{word_small, printed}

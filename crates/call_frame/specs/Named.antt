@@ -1,6 +1,6 @@
 -- The function that a name stands for (LANGUAGE.md, "Names").
 use Rattle.std.specs.Prelude.{◌≡◌, ℕ, ◌<◌, List, slice_get, Some}
-use Rattle.rust_ast.specs.declared.function.Function.{Function}
+use Rattle.sums_ast.specs.declared.function.Function.{Function}
 
 -- no function with a number below n has this name
 abbrev pub NoneNamed : List Function → List ℕ → ℕ → Type 0

@@ -2,7 +2,7 @@ ghost use Rattle.std.specs.Prelude.{◌^◌, MatchOption};
 ghost use Rattle.call_frame.specs.Named.{IsNamed, NoneNamed};
 
 use aen_base::FnId;
-use rust_ast::Program;
+use sums_ast::Program;
 
 /// The first function with this name; None exactly where no function that has a number, which is
 /// below 2^32, has the name.
@@ -24,8 +24,8 @@ pub fn function_named(program: &Program, name: &str) -> Option<FnId>
 mod tests {
     use super::*;
     use aen_base::{List, Name, NoMem, Num, Span};
-    use rust_ast::{Block, Expr, Function};
     use std::alloc::Global;
+    use sums_ast::{Block, Expr, Function};
 
     fn function(alloc: Global, name: &str, value: Num) -> Result<Function, NoMem> {
         let span = Span { lo: 0, hi: 1 };

@@ -7,8 +7,8 @@ ghost use Rattle.call_frame.specs.Arguments.{IsReading};
 use crate::number::word_number;
 use aen_base::{IntTy, List, NoMem, num};
 use pure_ast::PValue;
-use rust_ast::Function;
 use std::alloc::Global;
+use sums_ast::Function;
 use thiserror::Error;
 
 /// Why words give no arguments.
@@ -86,7 +86,7 @@ pub fn arguments(
 mod tests {
     use super::*;
     use aen_base::{Name, Span, VarId};
-    use rust_ast::{Block, Expr};
+    use sums_ast::{Block, Expr};
 
     /// `fn f(x: u32, y: u32) -> u32 { x }`.
     fn function(alloc: Global) -> Result<Function, NoMem> {

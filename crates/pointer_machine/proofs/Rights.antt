@@ -4,7 +4,7 @@ use Rattle.std.specs.Prelude.{Result, Ok, Err, IsErrAnd}
 use Rattle.aen_base.specs.declared.span.Span.{Span}
 use Rattle.aen_base.specs.declared.operators.BinOp.{BinOp}
 use Rattle.aen_base.specs.Numbers.{Number}
-use Rattle.rust_ast.specs.Tree.{Expr, binary, nodes_expr}
+use Rattle.sums_ast.specs.Tree.{Expr, binary, nodes_expr}
 use Rattle.pointer_machine.specs.declared.halt.Halt.{Halt}
 use Rattle.pointer_machine.specs.declared.halt.Stop.{Stop}
 use Rattle.pointer_machine.specs.declared.halt.Stop.TheVariants.{Halted, Memory}

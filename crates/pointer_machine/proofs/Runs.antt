@@ -8,8 +8,8 @@ use Rattle.aen_base.specs.declared.span.Span.{Span}
 use Rattle.aen_base.specs.Numbers.{Number}
 use Rattle.pure_ast.specs.Values as pv
 use Rattle.pure_ast.specs.Values.{PValue}
-use Rattle.rust_ast.specs.declared.function.Function.{Function}
-use Rattle.rust_ast.specs.declared.function.Program.{Program}
+use Rattle.sums_ast.specs.declared.function.Function.{Function}
+use Rattle.sums_ast.specs.declared.function.Program.{Program}
 use Rattle.source_meaning.specs.declared.outcome.Outcome.{Outcome}
 use Rattle.source_meaning.specs.declared.outcome.Outcome.TheVariants as O
 use Rattle.source_meaning.specs.Memory.{MTree, num, Memory}

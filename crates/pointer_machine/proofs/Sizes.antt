@@ -2,8 +2,8 @@
 use Rattle.std.proofs.Common.{◌≡◌, ℕ, zero, suc, ◌+◌, ◌-◌, ◌*◌, ◌<◌, ◌≤◌, List, [], ◌∷◌, length, get_or, suc-mul, refl, ap, arith}
 use Rattle.std.specs.Prelude.{slice_get, Some}
 use Rattle.std.proofs.lemmas.Option.{same_Some}
-use Rattle.rust_ast.specs.Tree.{Expr, Stmt, bind, nodes_expr, nodes_exprs, exprs, nodes_stmt, nodes_stmts, stmts, nodes_block}
-use Rattle.rust_ast.specs.declared.function.Function.{Function}
+use Rattle.sums_ast.specs.Tree.{Expr, Stmt, bind, nodes_expr, nodes_exprs, exprs, nodes_stmt, nodes_stmts, stmts, nodes_block}
+use Rattle.sums_ast.specs.declared.function.Function.{Function}
 use Rattle.pointer_machine.specs.Size.{bodies, weight}
 use Rattle.pointer_machine.specs.Values.{bound_to}
 

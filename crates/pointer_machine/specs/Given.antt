@@ -2,7 +2,7 @@
 use Rattle.std.specs.Prelude.{◌≡◌, List, Result, Ok, Err}
 use Rattle.aen_base.specs.Numbers.{Number}
 use Rattle.aen_base.specs.declared.span.Span.{Span}
-use Rattle.rust_ast.specs.Tree.{Stmts, MaybeExpr}
+use Rattle.sums_ast.specs.Tree.{Stmts, MaybeExpr}
 use Rattle.pointer_machine.specs.declared.halt.Stop.{Stop}
 use Rattle.pointer_machine.specs.declared.halt.Stop.TheVariants.{Halted, Memory}
 use Rattle.pointer_machine.specs.Values.{Valued, Call, body_value, last_value}

@@ -1,7 +1,7 @@
 -- How many nodes the bodies of a program have: no body has more.
 use Rattle.std.specs.Prelude.{ℕ, ◌+◌, ◌*◌, List, [], ◌∷◌}
-use Rattle.rust_ast.specs.Tree.{nodes_block}
-use Rattle.rust_ast.specs.declared.function.Function.{Function}
+use Rattle.sums_ast.specs.Tree.{nodes_block}
+use Rattle.sums_ast.specs.declared.function.Function.{Function}
 
 abbrev pub bodies : List Function → ℕ
 bodies [] = 0

@@ -1,7 +1,7 @@
 -- An expression along its left sides: what it comes to, and how large its parts are.
 use Rattle.std.specs.Prelude.{ℕ, ◌<◌, List, [], ◌∷◌, slice_get, Ok}
 use Rattle.aen_base.specs.Numbers.{Number}
-use Rattle.rust_ast.specs.Tree.{exprs, nodes_expr, nodes_exprs}
+use Rattle.sums_ast.specs.Tree.{exprs, nodes_expr, nodes_exprs}
 use Rattle.pointer_machine.specs.declared.spine.First.{First}
 use Rattle.pointer_machine.specs.declared.spine.First.TheVariants as F
 use Rattle.pointer_machine.specs.declared.spine.Right.{Right}

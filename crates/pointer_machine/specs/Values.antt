@@ -11,9 +11,9 @@ use Rattle.aen_base.specs.Numbers.{Number}
 use Rattle.aen_base.specs.Arithmetic.{apply}
 use Rattle.pure_ast.specs.Values as v
 use Rattle.pure_ast.specs.Values.{PValue}
-use Rattle.rust_ast.specs.Tree.{Expr, number, variable, binary, call, Exprs, no_exprs, more_exprs, Stmt, bind, Stmts, no_stmts, more_stmts, Block, block, MaybeExpr, no_maybeexpr, some_maybeexpr}
-use Rattle.rust_ast.specs.declared.function.Function.{Function}
-use Rattle.rust_ast.specs.declared.function.Program.{Program}
+use Rattle.sums_ast.specs.Tree.{Expr, number, variable, binary, call, Exprs, no_exprs, more_exprs, Stmt, bind, Stmts, no_stmts, more_stmts, Block, block, MaybeExpr, no_maybeexpr, some_maybeexpr}
+use Rattle.sums_ast.specs.declared.function.Function.{Function}
+use Rattle.sums_ast.specs.declared.function.Program.{Program}
 use Rattle.source_meaning.specs.declared.outcome.Outcome.{Outcome}
 use Rattle.source_meaning.specs.declared.outcome.Outcome.TheVariants as O
 use Rattle.pointer_machine.specs.declared.halt.Halt.{Halt}

@@ -1,5 +1,5 @@
 ghost use Rattle.std.specs.Prelude.{◌≡◌, [], slice_get};
-ghost use Rattle.rust_ast.specs.Tree.{exprs, stmts};
+ghost use Rattle.sums_ast.specs.Tree.{exprs, stmts};
 ghost use Rattle.pointer_machine.specs.Values as spec;
 ghost use Rattle.pointer_machine.specs.Spine as spine;
 ghost use Rattle.pointer_machine.specs.Given.{Gives, GivesAll, Declares};
@@ -8,8 +8,8 @@ use crate::halt::{Halt, Stop};
 use crate::operator::operate;
 use crate::spine::{First, Spine, along_left};
 use aen_base::{FnId, List, Num, Span, VarId, at};
-use rust_ast::{Block, Expr, Program, Stmt, StmtNode};
 use std::alloc::Global;
+use sums_ast::{Block, Expr, Program, Stmt, StmtNode};
 
 /// The number that a variable holds.
 fn variable(variables: &[Num], span: Span, id: VarId) -> Result<Num, Stop>

@@ -1,5 +1,5 @@
 ghost use Rattle.std.specs.Prelude.{◌≡◌, slice_get, Some, IfOk, IsSomeAnd};
-ghost use Rattle.rust_ast.specs.declared.function.Function.{Function};
+ghost use Rattle.sums_ast.specs.declared.function.Function.{Function};
 ghost use Rattle.source_meaning.specs.Calling.{AreArguments, call_outcome};
 ghost use Rattle.source_meaning.specs.Typing.{IsTyped};
 ghost use Rattle.pointer_machine.specs.Outcomes.{IsSettled};
@@ -9,9 +9,9 @@ use crate::calls::call;
 use crate::halt::{Halt, Stop};
 use aen_base::{FnId, List, NoMem, Num, Span};
 use pure_ast::{PValue, PValueNode};
-use rust_ast::Program;
 use source_meaning::Outcome;
 use std::alloc::Global;
+use sums_ast::Program;
 
 /// The numbers that values are; None where one is no number. The only error is want of memory.
 fn numbers(alloc: Global, values: &[PValue]) -> Result<Option<List<Num>>, NoMem>
@@ -76,7 +76,7 @@ pub fn run(
 mod tests {
     use super::*;
     use aen_base::{BinOp, IntTy, Name, VarId, num};
-    use rust_ast::{Block, Expr, Function};
+    use sums_ast::{Block, Expr, Function};
 
     const PLACE: Span = Span { lo: 0, hi: 1 };
 

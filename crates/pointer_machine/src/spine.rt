@@ -1,11 +1,11 @@
 ghost use Rattle.std.specs.Prelude.{◌≡◌, List, IfOk};
 ghost use Rattle.aen_base.specs.Numbers.{Number};
-ghost use Rattle.rust_ast.specs.Tree.{nodes_expr};
+ghost use Rattle.sums_ast.specs.Tree.{nodes_expr};
 ghost use Rattle.pointer_machine.specs.Spine as spec;
 
 use aen_base::{BinOp, FnId, List, NoMem, Num, Span, VarId};
-use rust_ast::{Expr, ExprNode};
 use std::alloc::Global;
+use sums_ast::{Expr, ExprNode};
 
 /// What stands first in an expression, each kind with its span.
 #[derive(Clone, Copy)]

@@ -4,9 +4,9 @@ use Rattle.aen_base.specs.declared.span.Span.{Span}
 use Rattle.aen_base.specs.declared.int_ty.IntTy.TheVariants.{U32}
 use Rattle.aen_base.specs.declared.operators.BinOp.TheVariants.{Add}
 use Rattle.aen_base.specs.Arithmetic.{number as number_of}
-use Rattle.rust_ast.specs.Tree.{Expr, number, variable, binary, call, exprs_list, Stmt, bind, Stmts, no_stmts, more_stmts, Block, block, MaybeExpr, no_maybeexpr, some_maybeexpr}
-use Rattle.rust_ast.specs.declared.function.Function.{Function}
-use Rattle.rust_ast.specs.declared.function.Program.{Program}
+use Rattle.sums_ast.specs.Tree.{Expr, number, variable, binary, call, exprs_list, Stmt, bind, Stmts, no_stmts, more_stmts, Block, block, MaybeExpr, no_maybeexpr, some_maybeexpr}
+use Rattle.sums_ast.specs.declared.function.Function.{Function}
+use Rattle.sums_ast.specs.declared.function.Program.{Program}
 use Rattle.source_meaning.specs.declared.token.Mark.{Mark}
 use Rattle.source_meaning.specs.declared.token.Mark.TheVariants.{Open, Close, OpenBrace, CloseBrace, Comma, Colon, Semicolon, Equals, Plus, Arrow}
 use Rattle.source_meaning.specs.declared.token.TokenKind.TheVariants.{Word, Punct}

@@ -5,9 +5,9 @@ use Rattle.aen_base.specs.declared.operators.BinOp.{BinOp}
 use Rattle.aen_base.specs.declared.operators.PanicKind.{PanicKind}
 use Rattle.aen_base.specs.Numbers.{Number}
 use Rattle.aen_base.specs.Arithmetic.{apply}
-use Rattle.rust_ast.specs.Tree.{Expr, number, variable, binary, call, Exprs, no_exprs, more_exprs, Stmt, bind, Stmts, no_stmts, more_stmts, Block, block, MaybeExpr, no_maybeexpr, some_maybeexpr}
-use Rattle.rust_ast.specs.declared.function.Function.{Function}
-use Rattle.rust_ast.specs.declared.function.Program.{Program}
+use Rattle.sums_ast.specs.Tree.{Expr, number, variable, binary, call, Exprs, no_exprs, more_exprs, Stmt, bind, Stmts, no_stmts, more_stmts, Block, block, MaybeExpr, no_maybeexpr, some_maybeexpr}
+use Rattle.sums_ast.specs.declared.function.Function.{Function}
+use Rattle.sums_ast.specs.declared.function.Program.{Program}
 use Rattle.source_meaning.specs.Memory.{MTree, num, unit, Cell, empty, holds, Memory, read_cell, write_cell, drop_frame}
 
 -- what running gives: a tree and the memory after it, a panic, a bound that was too small, or a place

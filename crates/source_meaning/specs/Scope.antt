@@ -1,6 +1,6 @@
 -- What a name means: the variable or the earlier function that it names (LANGUAGE.md, "Names").
 use Rattle.std.specs.Prelude.{◌≡◌, ℕ, ◌<◌, List, [], ◌∷◌, slice_get, Some, Contains}
-use Rattle.rust_ast.specs.declared.function.Function.{Function}
+use Rattle.sums_ast.specs.declared.function.Function.{Function}
 
 -- variable k is the last of the variables so far that has this name
 pub record IsLast (scope : List (List ℕ)) (name : List ℕ) (k : ℕ) : Type 0 where

@@ -5,9 +5,9 @@ use Rattle.aen_base.specs.Numbers.{Number}
 use Rattle.aen_base.specs.Arithmetic.{number as number_of}
 use Rattle.aen_base.specs.declared.int_ty.IntTy.TheVariants.{U32}
 use Rattle.aen_base.specs.declared.operators.BinOp.TheVariants.{Add}
-use Rattle.rust_ast.specs.Tree.{Expr, number, variable, binary, call, Exprs, no_exprs, more_exprs, exprs_list, bind, Stmts, no_stmts, more_stmts, Block, block, MaybeExpr, no_maybeexpr, some_maybeexpr}
-use Rattle.rust_ast.specs.declared.function.Function.{Function}
-use Rattle.rust_ast.specs.declared.function.Program.{Program}
+use Rattle.sums_ast.specs.Tree.{Expr, number, variable, binary, call, Exprs, no_exprs, more_exprs, exprs_list, bind, Stmts, no_stmts, more_stmts, Block, block, MaybeExpr, no_maybeexpr, some_maybeexpr}
+use Rattle.sums_ast.specs.declared.function.Function.{Function}
+use Rattle.sums_ast.specs.declared.function.Program.{Program}
 use Rattle.source_meaning.specs.Words.{is_name}
 
 -- a number of type u32

@@ -8,8 +8,8 @@ use Rattle.std.specs.Option.{option_and_then}
 use Rattle.aen_base.specs.declared.span.Span.{Span}
 use Rattle.pure_ast.specs.Code.{last}
 use Rattle.pure_ast.specs.declared.comp.Comp.TheVariants as C
-use Rattle.rust_ast.specs.Tree.{bind, Stmts, no_stmts, more_stmts, Block, block, MaybeExpr, no_maybeexpr, some_maybeexpr}
-use Rattle.rust_ast.specs.declared.function.Function.{Function}
+use Rattle.sums_ast.specs.Tree.{bind, Stmts, no_stmts, more_stmts, Block, block, MaybeExpr, no_maybeexpr, some_maybeexpr}
+use Rattle.sums_ast.specs.declared.function.Function.{Function}
 use Rattle.source_meaning.specs.Memory.{MTree, Cell, Memory, holds, write_cell, drop_frame}
 use Rattle.source_meaning.specs.Machine as m
 use Rattle.source_meaning.specs.Machine.{Ran, gives, panics, more, stuck, Call, run, run_body, run_block, wrote, left, frame_from, made_cells, entered}

@@ -5,7 +5,7 @@ use Rattle.std.proofs.lemmas.List.{get_or_append_left}
 use Rattle.std.specs.Prelude.{Contains}
 use Rattle.pure_ast.specs.declared.def.DefKind.TheVariants as K
 use Rattle.pure_ast.specs.declared.def.Def.{Def}
-use Rattle.rust_ast.specs.declared.function.Function.{Function}
+use Rattle.sums_ast.specs.declared.function.Function.{Function}
 use Rattle.source_meaning.specs.Typing.{AreTyped}
 use Rattle.text_meaning.specs.Lists.{Each, Differ}
 use Rattle.text_meaning.specs.Names.{IsName}

@@ -13,8 +13,8 @@ use Rattle.pure_ast.specs.Terms as t
 use Rattle.pure_ast.specs.declared.comp.Comp.{Comp}
 use Rattle.pure_ast.specs.declared.comp.Comp.TheVariants as C
 use Rattle.pure_ast.specs.declared.comp.Primitive.TheVariants as P
-use Rattle.rust_ast.specs.Tree.{Expr, number, variable, binary, call, Exprs, no_exprs, more_exprs, exprs_list}
-use Rattle.rust_ast.specs.declared.function.Function.{Function}
+use Rattle.sums_ast.specs.Tree.{Expr, number, variable, binary, call, Exprs, no_exprs, more_exprs, exprs_list}
+use Rattle.sums_ast.specs.declared.function.Function.{Function}
 use Rattle.source_meaning.specs.Memory.{MTree, num, Cell, Memory}
 use Rattle.source_meaning.specs.Machine as m
 use Rattle.source_meaning.specs.Machine.{Ran, gives, panics, more, stuck, Call, run, run_all, found, operate, operated}

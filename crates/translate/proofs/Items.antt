@@ -1,9 +1,9 @@
 -- Arguments one by one.
 use Rattle.std.proofs.Common.{◌≡◌, ℕ, zero, suc, ◌+◌, ◌<◌, List, [], ◌∷◌, ◌++◌, length, map, get_or, take, drop, refl, ap, ◌∙◌, sym, arith}
-use Rattle.rust_ast.specs.declared.function.Function.{Function}
+use Rattle.sums_ast.specs.declared.function.Function.{Function}
 use Rattle.text_meaning.specs.Lists.{Each}
 use Rattle.translate.specs.Emit.{definition, definitions}
-use Rattle.rust_ast.specs.Tree.{Expr, exprs, nodes_expr, nodes_exprs}
+use Rattle.sums_ast.specs.Tree.{Expr, exprs, nodes_expr, nodes_exprs}
 
 pub exprs_item : (xs : List Expr) (i : ℕ) (x : Expr) → i < length xs → x ≡ get_or xs i x → nodes_expr x < nodes_exprs (exprs xs)
 exprs_item [] i x h e = absurd (omega arith)

@@ -10,8 +10,8 @@ use Rattle.pure_ast.specs.Values.{PValue}
 use Rattle.pure_ast.specs.declared.def.DefKind.{DefKind}
 use Rattle.pure_ast.specs.declared.def.DefKind.TheVariants as K
 use Rattle.pure_ast.specs.declared.def.Def.{Def}
-use Rattle.rust_ast.specs.declared.function.Function.{Function}
-use Rattle.rust_ast.specs.declared.function.Program.{Program}
+use Rattle.sums_ast.specs.declared.function.Function.{Function}
+use Rattle.sums_ast.specs.declared.function.Program.{Program}
 use Rattle.source_meaning.specs.Memory.{MTree, Memory}
 use Rattle.source_meaning.specs.Machine as m
 use Rattle.source_meaning.specs.Machine.{Ran, gives, panics, more, stuck, call_at}

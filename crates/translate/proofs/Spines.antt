@@ -2,7 +2,7 @@
 use Rattle.std.proofs.Common.{◌≡◌, ℕ, ◌<◌, ◌≤◌, List, [], ◌∷◌, ◌++◌, refl, ap, sym, subst, ◌∙◌, arith}
 use Rattle.aen_base.specs.declared.span.Span.{Span}
 use Rattle.aen_base.specs.declared.operators.BinOp.{BinOp}
-use Rattle.rust_ast.specs.Tree.{Expr, binary, nodes_expr}
+use Rattle.sums_ast.specs.Tree.{Expr, binary, nodes_expr}
 use Rattle.translate.specs.declared.atom.Atom.{Atom}
 use Rattle.translate.specs.declared.spine.Right.{Right}
 use Rattle.translate.specs.Emit.{Emitted, with_right, emit}

@@ -2,11 +2,11 @@
 use Rattle.std.proofs.Common.{◌≡◌, ℕ, zero, suc, ◌+◌, ◌<◌, ◌^◌, List, [], ◌∷◌, ◌++◌, length, map, drop, replicate, refl, ap, sym, subst, ◌∙◌, arith, append_assoc, append-nil, length-append}
 use Rattle.std.specs.List.{range_with_len}
 use Rattle.pure_ast.specs.declared.comp.Comp.{Comp}
-use Rattle.rust_ast.specs.Tree.{Stmt, bind, stmts, no_stmts, MaybeExpr}
+use Rattle.sums_ast.specs.Tree.{Stmt, bind, stmts, no_stmts, MaybeExpr}
 use Rattle.translate.specs.declared.atom.Atom.{Atom}
 use Rattle.translate.specs.declared.emitter.Emitter.{Emitter}
 use Rattle.translate.specs.Emit.{Emitted, bound, followed, emit, emit_body, emit_block, emitted, parameter_atoms}
-use Rattle.rust_ast.specs.declared.function.Function.{Function}
+use Rattle.sums_ast.specs.declared.function.Function.{Function}
 use Rattle.translate.specs.Adds.{Adds, IsNumbered}
 
 -- a body of which the statements before place i are emitted

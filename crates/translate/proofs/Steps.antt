@@ -4,7 +4,7 @@ use Rattle.aen_base.specs.declared.operators.BinOp.{BinOp}
 use Rattle.pure_ast.specs.Code.{Code, bind}
 use Rattle.pure_ast.specs.Terms.{Term}
 use Rattle.pure_ast.specs.declared.comp.Comp.{Comp}
-use Rattle.rust_ast.specs.Tree.{Expr, exprs, nodes_expr}
+use Rattle.sums_ast.specs.Tree.{Expr, exprs, nodes_expr}
 use Rattle.translate.specs.declared.spine.Right.{Right}
 use Rattle.translate.specs.Spine.{rights_emitted, AreBelow}
 use Rattle.translate.proofs.Spines.{rights_push}

@@ -3,7 +3,7 @@ use Rattle.std.specs.Prelude.{◌≡◌, ◌+◌, ◌<◌, ◌^◌, List, ◌++�
 use Rattle.pure_ast.specs.Terms.{Term}
 use Rattle.translate.specs.declared.atom.Atom.{Atom}
 use Rattle.translate.specs.declared.emitter.Emitter.{Emitter}
-use Rattle.rust_ast.specs.declared.function.Function.{Function}
+use Rattle.sums_ast.specs.declared.function.Function.{Function}
 use Rattle.text_meaning.specs.Lists.{Each}
 use Rattle.translate.specs.Emit.{Emitted, EmittedAll, emitted}
 

@@ -5,8 +5,8 @@ use Rattle.pure_ast.specs.declared.def.DefKind.TheVariants.{Forward}
 use Rattle.pure_ast.specs.declared.def.Def.{Def}
 use Rattle.pure_ast.specs.declared.def.Defs.{Defs}
 use Rattle.pure_ast.specs.Types.{PTy, integer}
-use Rattle.rust_ast.specs.declared.function.Function.{Function}
-use Rattle.rust_ast.specs.declared.function.Program.{Program}
+use Rattle.sums_ast.specs.declared.function.Function.{Function}
+use Rattle.sums_ast.specs.declared.function.Program.{Program}
 
 abbrev pub u32_type : PTy
 u32_type = integer U32

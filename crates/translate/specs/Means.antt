@@ -4,8 +4,8 @@ use Rattle.pure_ast.specs.declared.def.DefKind.TheVariants.{Forward}
 use Rattle.pure_ast.specs.declared.def.Def.{Def}
 use Rattle.pure_ast.specs.declared.def.Defs.{Defs}
 use Rattle.pure_ast.specs.Values.{PValue}
-use Rattle.rust_ast.specs.declared.function.Function.{Function}
-use Rattle.rust_ast.specs.declared.function.Program.{Program}
+use Rattle.sums_ast.specs.declared.function.Function.{Function}
+use Rattle.sums_ast.specs.declared.function.Program.{Program}
 use Rattle.source_meaning.specs.declared.outcome.Outcome.{Outcome}
 use Rattle.source_meaning.specs.declared.outcome.Outcome.TheVariants as O
 use Rattle.source_meaning.specs.Calling.{call_outcome, AreArguments}

@@ -1,6 +1,6 @@
 -- An expression along its left sides: what it adds, and how large its parts are (TEXT.md, "Code").
 use Rattle.std.specs.Prelude.{ℕ, ◌<◌, List, [], ◌∷◌, slice_get}
-use Rattle.rust_ast.specs.Tree.{exprs, nodes_expr, nodes_exprs}
+use Rattle.sums_ast.specs.Tree.{exprs, nodes_expr, nodes_exprs}
 use Rattle.translate.specs.declared.atom.Atom.{Atom}
 use Rattle.translate.specs.declared.spine.First.{First}
 use Rattle.translate.specs.declared.spine.First.TheVariants as F

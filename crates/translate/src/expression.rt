@@ -1,5 +1,5 @@
 ghost use Rattle.std.specs.Prelude.{◌≡◌, IfOk};
-ghost use Rattle.rust_ast.specs.Tree.{exprs};
+ghost use Rattle.sums_ast.specs.Tree.{exprs};
 ghost use Rattle.translate.specs.Emit as spec;
 ghost use Rattle.translate.specs.Spine as spine;
 ghost use Rattle.translate.specs.Adds as adds;
@@ -9,8 +9,8 @@ use crate::emitter::Emitter;
 use crate::spine::{First, Right, Spine, along_left};
 use aen_base::{BinOp, DefId, IntTy, List, NoMem};
 use pure_ast::{Comp, Primitive, Term};
-use rust_ast::Expr;
 use std::alloc::Global;
+use sums_ast::Expr;
 
 /// The computation of an operator on two numbers. The only error is want of memory.
 fn operation(alloc: Global, op: BinOp, left: Atom, right: Atom) -> Result<Comp, NoMem>

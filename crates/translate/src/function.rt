@@ -1,5 +1,5 @@
 ghost use Rattle.std.specs.Prelude.{◌≡◌, ◌+◌, replicate, IfOk};
-ghost use Rattle.rust_ast.specs.Tree.{maybeexpr, no_stmts};
+ghost use Rattle.sums_ast.specs.Tree.{maybeexpr, no_stmts};
 ghost use Rattle.translate.specs.Emit as spec;
 ghost use Rattle.translate.specs.Adds as adds;
 ghost use Rattle.translate.specs.Lists.{u32_type};
@@ -9,8 +9,8 @@ use crate::emitter::Emitter;
 use crate::expression::expression;
 use aen_base::{FnId, IntTy, List, NoMem};
 use pure_ast::{Def, DefKind, PTy};
-use rust_ast::{Block, BlockNode, Expr, Function, Stmt, StmtNode};
 use std::alloc::Global;
+use sums_ast::{Block, BlockNode, Expr, Function, Stmt, StmtNode};
 
 /// The atoms of the parameters, which are the first variables of the code. The only error is want
 /// of memory.

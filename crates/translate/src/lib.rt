@@ -17,8 +17,8 @@ ghost use Rattle.translate.specs.Means.{Means};
 use crate::program::definitions;
 use aen_base::NoMem;
 use pure_ast::Defs;
-use rust_ast::Program;
 use std::alloc::Global;
+use sums_ast::Program;
 
 /// The definitions of a program. The only error is want of memory.
 pub fn translate(alloc: Global, program: &Program) -> Result<Defs, NoMem>
@@ -35,9 +35,9 @@ mod tests {
     use super::translate;
     use aen_base::{BinOp, IntTy, List, Name, NoMem, Span, VarId};
     use pure_ast::{Code, CodeNode, Comp, Primitive};
-    use rust_ast::{Block, Expr, Function, Program};
     use std::alloc::Global;
     use std::test::Fail;
+    use sums_ast::{Block, Expr, Function, Program};
 
     /// `fn twice(x: u32) -> u32 { x + x }`
     fn twice(alloc: Global) -> Result<Program, NoMem>

@@ -5,8 +5,8 @@ ghost use Rattle.translate.specs.Adds as adds;
 use crate::function::definition;
 use aen_base::{List, NoMem};
 use pure_ast::Defs;
-use rust_ast::Program;
 use std::alloc::Global;
+use sums_ast::Program;
 
 /// The definitions of a program, function by function. The only error is want of memory, also
 /// where a function's number would pass the greatest u32.

@@ -1,11 +1,11 @@
 ghost use Rattle.std.specs.Prelude.{◌≡◌, ◌<◌, ℕ, List, IfOk};
-ghost use Rattle.rust_ast.specs.Tree.{nodes_expr};
+ghost use Rattle.sums_ast.specs.Tree.{nodes_expr};
 ghost use Rattle.translate.specs.Spine as spec;
 
 use crate::atom::Atom;
 use aen_base::{BinOp, FnId, List, NoMem};
-use rust_ast::{Expr, ExprNode};
 use std::alloc::Global;
+use sums_ast::{Expr, ExprNode};
 
 /// What stands first in an expression: an atom, or a call with its arguments.
 #[derive(Clone, Copy)]

@@ -1,7 +1,7 @@
 use Rattle.std.proofs.Common.{◌≡◌, sym, subst, Result, Ok, Err}
 use Rattle.std.specs.Prelude.{IfOk}
 use Rattle.aen_base.specs.declared.memory.NoMem.{NoMem}
-use Rattle.rust_ast.specs.declared.function.Program.{Program}
+use Rattle.sums_ast.specs.declared.function.Program.{Program}
 use Rattle.source_meaning.specs.Typing.{IsTyped}
 use Rattle.text_meaning.specs.WellFormed.{IsWellFormed}
 use Rattle.std.proofs.lemmas.Result.{IfOk-weaker}

@@ -1,6 +1,6 @@
 use Rattle.std.proofs.Common.{◌-◌, sym, ap, subst, ◌∙◌, arith}
 use Rattle.std.specs.Prelude.{slice_get}
-use Rattle.rust_ast.specs.Tree.{nodes_expr}
+use Rattle.sums_ast.specs.Tree.{nodes_expr}
 use Rattle.pointer_machine.specs.Values as spec
 use Rattle.pointer_machine.specs.Given.{Gives}
 use Rattle.pointer_machine.proofs.Runs.{value_zero, value_past}

@@ -2,7 +2,7 @@ use Rattle.std.proofs.Common.{◌≡◌, ◌+◌, ◌*◌, List, [], length, dro
 use Rattle.std.specs.Prelude.{Ok}
 use Rattle.aen_base.specs.Numbers.{Number}
 use Rattle.aen_base.specs.declared.span.Span.{Span}
-use Rattle.rust_ast.specs.Tree.{nodes_expr, nodes_exprs, nodes_stmts, nodes_block, exprs, stmts, MaybeExpr}
+use Rattle.sums_ast.specs.Tree.{nodes_expr, nodes_exprs, nodes_stmts, nodes_block, exprs, stmts, MaybeExpr}
 use Rattle.pointer_machine.specs.Values as spec
 use Rattle.pointer_machine.specs.Spine as spine
 use Rattle.pointer_machine.specs.Size.{weight}

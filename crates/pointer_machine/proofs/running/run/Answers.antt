@@ -1,7 +1,7 @@
 use Rattle.std.proofs.Common.{◌≡◌}
 use Rattle.std.specs.Prelude.{slice_get, Some}
 use Rattle.std.proofs.lemmas.Result.{IfOk-weaker}
-use Rattle.rust_ast.specs.declared.function.Function.{Function}
+use Rattle.sums_ast.specs.declared.function.Function.{Function}
 use Rattle.source_meaning.specs.Calling.{call_outcome}
 use Rattle.source_meaning.specs.declared.outcome.Outcome.{Outcome}
 use Rattle.pointer_machine.specs.Values as spec

@@ -1,6 +1,6 @@
 use Rattle.std.proofs.Common.{◌≡◌, ◌≤◌, ap, sym, subst, refl, ◌∙◌}
-use Rattle.rust_ast.specs.Tree.{Expr, binary, nodes_expr}
-use Rattle.rust_ast.specs.View.{expr_of}
+use Rattle.sums_ast.specs.Tree.{Expr, binary, nodes_expr}
+use Rattle.sums_ast.specs.View.{expr_of}
 use Rattle.pointer_machine.specs.declared.spine.Right.{Right}
 use Rattle.pointer_machine.specs.Spine as spec
 use Rattle.pointer_machine.proofs.Rights.{next_whole, next_below, next_left}

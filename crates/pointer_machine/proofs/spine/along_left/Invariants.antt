@@ -1,6 +1,6 @@
 use Rattle.std.proofs.Common.{◌≡◌, ◌≤◌, List}
 use Rattle.aen_base.specs.Numbers.{Number}
-use Rattle.rust_ast.specs.Tree.{nodes_expr}
+use Rattle.sums_ast.specs.Tree.{nodes_expr}
 use Rattle.pointer_machine.specs.Spine as spec
 use Rattle.pointer_machine.proofs.spine.along_left.Given as goal
 

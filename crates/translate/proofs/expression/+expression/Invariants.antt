@@ -1,5 +1,5 @@
 use Rattle.std.proofs.Common.{◌+◌, ◌*◌, length}
-use Rattle.rust_ast.specs.Tree.{nodes_expr, nodes_exprs, exprs}
+use Rattle.sums_ast.specs.Tree.{nodes_expr, nodes_exprs, exprs}
 use Rattle.translate.specs.Spine.{first_nodes}
 use Rattle.translate.proofs.Steps.{Along, AlongAll}
 use Rattle.translate.proofs.expression.+expression.Given as goal

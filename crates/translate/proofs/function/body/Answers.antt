@@ -1,6 +1,6 @@
 use Rattle.std.proofs.Common.{◌≡◌, ◌+◌, length, drop, List, ◌∷◌, ap, subst, arith}
 use Rattle.std.proofs.lemmas.Result.{IfOk-weaker}
-use Rattle.rust_ast.specs.Tree.{Expr, Stmt, no_stmts, Block, maybeexpr}
+use Rattle.sums_ast.specs.Tree.{Expr, Stmt, no_stmts, Block, maybeexpr}
 use Rattle.translate.specs.declared.atom.Atom.{Atom}
 use Rattle.translate.specs.Emit as spec
 use Rattle.translate.specs.Adds.{Adds}

@@ -1,4 +1,4 @@
-use Rattle.rust_ast.specs.Tree.{maybeexpr}
+use Rattle.sums_ast.specs.Tree.{maybeexpr}
 use Rattle.translate.proofs.Statements.{AlongBody}
 use Rattle.translate.proofs.function.body.Given as goal
 

@@ -1,5 +1,5 @@
 use Rattle.std.proofs.Common.{◌≡◌, ◌+◌, List, ◌∷◌, [], ◌++◌, length, map, take, ap, sym, subst, ◌∙◌, arith, length-take}
-use Rattle.rust_ast.specs.declared.function.Function.{Function}
+use Rattle.sums_ast.specs.declared.function.Function.{Function}
 use Rattle.translate.specs.Emit as spec
 use Rattle.translate.specs.Adds as adds
 use Rattle.translate.proofs.Items.{take_item, map_push, each_push, definitions_push}

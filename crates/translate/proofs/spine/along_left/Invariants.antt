@@ -1,5 +1,5 @@
 use Rattle.std.proofs.Common.{◌≡◌, ℕ, ◌≤◌}
-use Rattle.rust_ast.specs.Tree.{nodes_expr}
+use Rattle.sums_ast.specs.Tree.{nodes_expr}
 use Rattle.translate.specs.Spine as spec
 use Rattle.translate.proofs.spine.along_left.Given as goal
 

@@ -1,7 +1,0 @@
--- What is left to drop is no larger than the whole.
-use Rattle.std.proofs.Common.{◌≤◌}
-use Rattle.rust_ast.specs.Tree.{nodes_expr}
-use Rattle.rust_ast.proofs.tree.Expr.+drop.Given as goal
-
-abbrev pub invariant-loop-arguments : goal.invariant-loop-arguments
-invariant-loop-arguments l = nodes_expr l.self ≤ nodes_expr l.fn.self
