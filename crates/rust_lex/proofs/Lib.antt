@@ -1,0 +1,13 @@
+pub mod Tests
+pub mod Fronting
+pub mod Strings
+pub mod Closing
+pub mod Suffixes
+pub mod Digits
+pub mod Naming
+pub mod Marks
+pub mod Forms
+pub mod Founding
+pub mod Boundaries
+pub mod Stepping
+pub mod Reading

@@ -9,8 +9,7 @@ begins test (c ∷ cs) = test c
 -- whether a text begins with these two bytes
 abbrev pub begins_two : ℕ → ℕ → List ℕ → Bool
 begins_two a b [] = false
-begins_two a b (c ∷ []) = false
-begins_two a b (c ∷ d ∷ cs) = (c == a) && (d == b)
+begins_two a b (c ∷ cs) = (c == a) && begins (λ d. d == b) cs
 
 -- the longest beginning whose bytes pass the test, and what stands after it
 abbrev pub front : (ℕ → Bool) → List ℕ → List ℕ

@@ -5,19 +5,13 @@ use Rattle.aen_base.specs.declared.span.Span.{Span}
 use Rattle.rust_lex.specs.declared.token.Kind.{Kind}
 use Rattle.rust_lex.specs.declared.token.Kind.TheVariants as K
 use Rattle.rust_lex.specs.declared.token.Token.{Token}
+use Rattle.rust_lex.specs.declared.token.Form.{Form}
+use Rattle.rust_lex.specs.declared.token.Form.TheVariants.{Identifier, Lifetime, Number, Quoted, Mark}
 use Rattle.rust_lex.specs.Characters.{begins, is_white}
 use Rattle.rust_lex.specs.Identifiers.{is_identifier, is_named, name_of, word_kind, is_lifetime, lifetime_kind}
 use Rattle.rust_lex.specs.Numbers.{is_number, are_digits, is_small}
 use Rattle.rust_lex.specs.Punctuation.{is_mark}
 use Rattle.rust_lex.specs.Comments.{begins_comment, begins_block_comment, Closes, Gap}
-
--- the forms of tokens
-pub data Form : Type 0 where
-  identifier : Form
-  lifetime : Form
-  number : Form
-  quoted : Form
-  mark : Form
 
 -- behind a string's first `"`: up to the next `"` that no `\` takes with it, and nothing behind it.
 -- `\` takes the next character with it, of which no further byte is `"` or `\`
@@ -32,22 +26,22 @@ is_string (c ∷ cs) = (c == 34) && closes_string false cs
 
 -- whether a slice has the form of a token; directly after `.` numbers are digits
 abbrev pub is_form : Bool → Form → List ℕ → Bool
-is_form after_dot identifier w = is_identifier w
-is_form after_dot lifetime w = is_lifetime w
-is_form false number w = is_number w
-is_form true number w = are_digits w
-is_form after_dot quoted w = is_string w
-is_form after_dot mark w = is_mark w
+is_form after_dot Identifier w = is_identifier w
+is_form after_dot Lifetime w = is_lifetime w
+is_form false Number w = is_number w
+is_form true Number w = are_digits w
+is_form after_dot Quoted w = is_string w
+is_form after_dot Mark w = is_mark w
 
 -- the kind of token that a slice of this form is; none is a lexical fault: an identifier whose NFC is
 -- none, a number above 2^128 - 1
 abbrev pub kind_of : Form → List ℕ → Option Kind
-kind_of identifier w = if is_named w then Some (word_kind (name_of w)) else None
-kind_of lifetime [] = None
-kind_of lifetime (c ∷ w) = lifetime_kind w
-kind_of number w = if is_small w then Some K.Integer else None
-kind_of quoted w = Some K.Str
-kind_of mark w = Some K.Punct
+kind_of Identifier w = if is_named w then Some (word_kind (name_of w)) else None
+kind_of Lifetime [] = None
+kind_of Lifetime (c ∷ w) = lifetime_kind w
+kind_of Number w = if is_small w then Some K.Integer else None
+kind_of Quoted w = Some K.Str
+kind_of Mark w = Some K.Punct
 
 -- the first n bytes are the longest slice of a token's form that begins here
 pub record IsLongest (after_dot : Bool) (form : Form) (n : ℕ) (text : List ℕ) : Type 0 where

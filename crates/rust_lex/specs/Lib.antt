@@ -5,3 +5,4 @@ pub mod Numbers
 pub mod Punctuation
 pub mod Comments
 pub mod Lexing
+pub mod Scan

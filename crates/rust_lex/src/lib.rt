@@ -2,6 +2,7 @@
 //! their names, words, lifetimes, integers, strings and punctuation, each with its place.
 #![tactic(auto)]
 
+mod step;
 mod token;
 
-pub use token::{Base, Integer, Kind, Token, Tokens};
+pub use token::{Base, Form, Integer, Kind, Token, Tokens};

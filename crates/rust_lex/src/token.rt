@@ -19,6 +19,21 @@ pub enum Kind {
     Punct,
 }
 
+/// The forms that slices of a source may have.
+#[derive(Clone, Copy, Debug, PartialEq, Eq)]
+pub enum Form {
+    /// An identifier, also one that is a word or whose NFC is none.
+    Identifier,
+    /// `'` and an identifier, or `'_`.
+    Lifetime,
+    /// An integer, also one that is too large.
+    Number,
+    /// A string.
+    Quoted,
+    /// Punctuation, `_` among it.
+    Mark,
+}
+
 /// A token and its place: its text is the slice of the source from `span.lo` to `span.hi`.
 #[derive(Clone, Copy, Debug, PartialEq, Eq)]
 pub struct Token {

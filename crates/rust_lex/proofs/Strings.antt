@@ -1,0 +1,57 @@
+-- Where a string ends.
+use Rattle.std.proofs.Common.{◌≡◌, refl, ap, sym, ◌∙◌, ℕ, zero, suc, ◌+◌, ◌-◌, ◌≤◌, Bool, true, false, List, [], ◌∷◌, ◌++◌, length, take, drop, length-drop, Option, Some, None, arith}
+use Rattle.std.specs.Prelude.{◌&&◌, ◌==◌, if◌then◌else◌, bytes_eq}
+use Rattle.rust_lex.specs.Lexing.{closes_string, is_string}
+use Rattle.rust_lex.specs.Scan.{after_string}
+use Rattle.rust_lex.proofs.Tests.{by_test, if_true, if_false}
+
+-- after k bytes this rest stands
+pub record Stands (k : ℕ) (text rest : List ℕ) : Type 0 where
+  pub within : k ≤ length text
+  pub left : drop k text ≡ rest
+
+pub stands_more : (k : ℕ) (c : ℕ) (cs rest : List ℕ) → Stands k cs rest → Stands (suc k) (c ∷ cs) rest
+stands_more k c cs rest s = let w = s.within in record { within = omega arith; left = s.left }
+
+-- how many bytes are before a rest
+pub stands_count : (k : ℕ) (text rest : List ℕ) → Stands k text rest → length text - length rest ≡ k
+stands_count k text rest s = let w = s.within in let l = ap length (sym s.left) ∙ length-drop k text in omega arith
+
+pub record Ended (taken : Bool) (cs rest : List ℕ) : Type 0 where
+  pub count : ℕ
+  pub stands : Stands count cs rest
+  pub closes : closes_string taken (take count cs) ≡ true
+
+quote_ends : (c : ℕ) (cs rest : List ℕ) → (c == 34) ≡ true → Some cs ≡ Some rest → Ended false (c ∷ cs) rest
+quote_ends c cs rest t e =
+    let f : cs ≡ rest = cc in
+    record { count = 1; stands = record { within = omega arith; left = f }; closes = if_true (c == 34) true false t }
+
+pub string_ended : (taken : Bool) (cs rest : List ℕ) → after_string taken cs ≡ Some rest → Ended taken cs rest
+string_ended taken [] rest h = absurd cc
+string_ended true (c ∷ cs) rest h =
+    let r = string_ended false cs rest h in
+    record { count = suc r.count; stands = stands_more r.count c cs rest r.stands; closes = r.closes }
+string_ended false (c ∷ cs) rest h =
+    by_test (c == 34) (Some cs) (after_string (c == 92) cs) (Some rest) h
+    (λ t e. quote_ends c cs rest t e)
+    (λ t e. let r = string_ended (c == 92) cs rest e in
+    record { count = suc r.count; stands = stands_more r.count c cs rest r.stands; closes = if_false (c == 34) (bytes_eq (take r.count cs) []) (closes_string (c == 92) (take r.count cs)) t ∙ r.closes })
+
+nothing_closes : (taken : Bool) → closes_string taken [] ≡ true → ⊥
+nothing_closes true h = cc
+nothing_closes false h = cc
+
+end_at : (m : ℕ) (cs : List ℕ) → m ≤ length cs → bytes_eq (take m cs) [] ≡ true → cs ≡ drop m cs
+end_at zero cs l h = refl
+end_at (suc m) [] l h = refl
+end_at (suc m) (c ∷ cs) l h = absurd cc
+
+pub string_found : (taken : Bool) (m : ℕ) (cs : List ℕ) → m ≤ length cs → closes_string taken (take m cs) ≡ true → after_string taken cs ≡ Some (drop m cs)
+string_found taken zero cs l h = absurd (nothing_closes taken h)
+string_found taken (suc m) [] l h = absurd (nothing_closes taken h)
+string_found true (suc m) (c ∷ cs) l h = string_found false m cs (omega arith) h
+string_found false (suc m) (c ∷ cs) l h =
+    by_test (c == 34) (bytes_eq (take m cs) []) (closes_string (c == 92) (take m cs)) true h
+    (λ t e. if_true (c == 34) (Some cs) (after_string (c == 92) cs) t ∙ ap (λ x. Some x) (end_at m cs (omega arith) e))
+    (λ t e. if_false (c == 34) (Some cs) (after_string (c == 92) cs) t ∙ string_found (c == 92) m cs (omega arith) e)
