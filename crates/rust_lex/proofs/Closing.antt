@@ -1,12 +1,12 @@
 -- Where a comment ends.
-use Rattle.std.proofs.Common.{◌≡◌, refl, ap, sym, subst, ◌∙◌, ℕ, zero, suc, ◌+◌, ◌-◌, ◌≤◌, Bool, true, false, List, [], ◌∷◌, ◌++◌, length, take, drop, length-drop, Option, Some, None, arith}
+use Rattle.std.proofs.Common.{◌≡◌, refl, ap, sym, subst, ◌∙◌, ℕ, zero, suc, ◌+◌, ◌-◌, ◌≤◌, ◌<◌, Bool, true, false, List, [], ◌∷◌, ◌++◌, length, take, drop, length-drop, Option, Some, None, arith}
 use Rattle.std.specs.Prelude.{◌&&◌, ◌==◌, if◌then◌else◌}
 use Rattle.std.proofs.lemmas.List.{drop-drop}
 use Rattle.std.proofs.lemmas.Bool.{eqb-true}
 use Rattle.rust_lex.specs.Characters.{begins, begins_two}
 use Rattle.rust_lex.specs.Comments.{Closes, here, nested, other, begins_block_comment, ends_block_comment}
 use Rattle.rust_lex.specs.Scan.{after_comment, closed}
-use Rattle.rust_lex.proofs.Tests.{by_test, if_true, if_false, and_left, and_right}
+use Rattle.rust_lex.proofs.Tests.{by_test, if_true, if_false, and_left, and_right, clash}
 use Rattle.rust_lex.proofs.Strings.{Stands, stands_more}
 
 -- what is read on where so many comments are open behind a closed one
@@ -83,3 +83,35 @@ closes_behind cs rest (nested {cs = inner} {mid = mid} a b) = join inner mid res
 closes_behind cs rest (other {c = c} {cs = inner} h k a) =
     let r = closes_behind inner rest a in
     record { count = suc r.count; stands = stands_more r.count c inner rest r.stands }
+
+-- ---- a turn of the search
+
+pub open_turn : (d : ℕ) (xs : List ℕ) → begins_block_comment xs ≡ true → after_comment (d + 1) (drop 2 xs) ≡ after_comment d xs
+unfolding after_comment
+open_turn d [] h = absurd cc
+open_turn d (c ∷ []) h = absurd (clash (begins (λ d. d == 42) []) (and_right (c == 47) (begins (λ d. d == 42) []) h) refl)
+open_turn d (c ∷ e ∷ cs) h =
+    let s : d + 1 ≡ suc d = omega arith in
+    ap (λ n. after_comment n cs) s ∙ sym (if_true ((c == 47) && (e == 42)) (after_comment (suc d) cs) _ h)
+
+pub other_turn : (d : ℕ) (xs : List ℕ) → begins_block_comment xs ≡ false → ends_block_comment xs ≡ false → after_comment d (drop 1 xs) ≡ after_comment d xs
+unfolding after_comment
+other_turn d [] h k = refl
+other_turn d (c ∷ cs) h k = sym (step_other d c cs h k)
+
+pub close_turn : (d : ℕ) (xs : List ℕ) → begins_block_comment xs ≡ false → ends_block_comment xs ≡ true → on d (drop 2 xs) ≡ after_comment d xs
+unfolding after_comment
+close_turn d [] h k = absurd cc
+close_turn d (c ∷ []) h k = absurd (clash (begins (λ d. d == 47) []) (and_right (c == 42) (begins (λ d. d == 47) []) k) refl)
+close_turn d (c ∷ e ∷ cs) h k =
+    sym (if_false ((c == 47) && (e == 42)) (after_comment (suc d) cs) _ h ∙ if_true ((c == 42) && (e == 47)) (on d cs) (after_comment d (e ∷ cs)) k)
+
+pub on_less : (d : ℕ) (xs : List ℕ) → 0 < d → after_comment (d - 1) xs ≡ on d xs
+on_less zero xs h = absurd (omega arith)
+on_less (suc d) xs h = let e : suc d - 1 ≡ d = omega arith in ap (λ n. after_comment n xs) e
+
+pub none_left : (d : ℕ) (xs : List ℕ) → length xs ≤ 1 → after_comment d xs ≡ None
+unfolding after_comment
+none_left d [] h = refl
+none_left d (c ∷ []) h = refl
+none_left d (c ∷ e ∷ cs) h = absurd (omega arith)

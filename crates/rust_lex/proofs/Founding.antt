@@ -18,7 +18,7 @@ use Rattle.rust_lex.proofs.Tests.{choose, and_left, and_right, and_both, or_case
 use Rattle.rust_lex.proofs.Strings.{Stands, stands_count, string_ended, string_found}
 use Rattle.rust_lex.proofs.Digits.{number_longest, number_is, digits_longest, digits_are}
 use Rattle.rust_lex.proofs.Naming.{IsFoundName, name_found, name_none}
-use Rattle.rust_lex.proofs.Marks.{mark_found, mark_none}
+use Rattle.rust_lex.proofs.Longest.{mark_found, mark_none}
 use Rattle.rust_lex.proofs.Forms.{fits_first, first_fits, is_letter, is_mark_byte, no_form, form_is, form_of, underscore_mark}
 
 abbrev pub IsFound : Bool → List ℕ → Found → Type 0

@@ -1,11 +1,12 @@
 pub mod Tests
+pub mod Grouped
 pub mod Fronting
 pub mod Strings
 pub mod Closing
 pub mod Suffixes
 pub mod Digits
 pub mod Naming
-pub mod Marks
+pub mod Longest
 pub mod Forms
 pub mod Founding
 pub mod Boundaries

@@ -189,6 +189,10 @@ first_char [] k rest e =
     absurd (omega arith)
 first_char (j ∷ ks) k rest e = ap (λ x. length (encode x)) (encode_same j k (encodes ks) rest e).0
 
+pub some_width : (k : ℕ) → 1 ≤ length (encode_utf8 k)
+unfolding encode_utf8
+some_width k = let m = length-encode k in let b = (len_utf8_bounds k).0 in omega arith
+
 no_width : (k : ℕ) → 0 ≡ length (encode_utf8 k) → ⊥
 unfolding encode_utf8
 no_width k x = let m = length-encode k in let b = (len_utf8_bounds k).0 in omega arith

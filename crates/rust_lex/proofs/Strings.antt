@@ -1,5 +1,5 @@
 -- Where a string ends.
-use Rattle.std.proofs.Common.{◌≡◌, refl, ap, sym, ◌∙◌, ℕ, zero, suc, ◌+◌, ◌-◌, ◌≤◌, Bool, true, false, List, [], ◌∷◌, ◌++◌, length, take, drop, length-drop, Option, Some, None, arith}
+use Rattle.std.proofs.Common.{◌≡◌, refl, ap, sym, ◌∙◌, ℕ, zero, suc, ◌+◌, ◌-◌, ◌≤◌, ◌<◌, Bool, true, false, List, [], ◌∷◌, ◌++◌, length, take, drop, length-drop, drop-cons, drop_of_length-le, get_or, not, Option, Some, None, arith}
 use Rattle.std.specs.Prelude.{◌&&◌, ◌==◌, if◌then◌else◌, bytes_eq}
 use Rattle.rust_lex.specs.Lexing.{closes_string, is_string}
 use Rattle.rust_lex.specs.Scan.{after_string}
@@ -55,3 +55,37 @@ string_found false (suc m) (c ∷ cs) l h =
     by_test (c == 34) (bytes_eq (take m cs) []) (closes_string (c == 92) (take m cs)) true h
     (λ t e. if_true (c == 34) (Some cs) (after_string (c == 92) cs) t ∙ ap (λ x. Some x) (end_at m cs (omega arith) e))
     (λ t e. if_false (c == 34) (Some cs) (after_string (c == 92) cs) t ∙ string_found (c == 92) m cs (omega arith) e)
+
+-- ---- a turn of the search
+
+-- a byte that ends a string, and one that takes the next with it
+turn_by : (taken : Bool) (c : ℕ) (cs : List ℕ) → (not taken && (c == 34)) ≡ false → after_string (not taken && (c == 92)) cs ≡ after_string taken (c ∷ cs)
+turn_by true c cs h = refl
+turn_by false c cs h = sym (if_false (c == 34) (Some cs) (after_string (c == 92) cs) h)
+
+pub string_turn : (taken : Bool) (bs : List ℕ) (at : ℕ) → at < length bs → (not taken && (get_or bs at 0 == 34)) ≡ false →
+    after_string (not taken && (get_or bs at 0 == 92)) (drop (at + 1) bs) ≡ after_string taken (drop at bs)
+string_turn taken bs at l h =
+    let s : at + 1 ≡ suc at = omega arith in
+    ap (λ n. after_string (not taken && (get_or bs at 0 == 92)) (drop n bs)) s ∙ turn_by taken (get_or bs at 0) (drop (suc at) bs) h ∙ ap (after_string taken) (sym (drop-cons bs at 0 l))
+
+quote_by : (taken : Bool) (c : ℕ) (cs : List ℕ) → (not taken && (c == 34)) ≡ true → after_string taken (c ∷ cs) ≡ Some cs
+quote_by true c cs h = absurd cc
+quote_by false c cs h = if_true (c == 34) (Some cs) (after_string (c == 92) cs) h
+
+pub quote_turn : (taken : Bool) (bs : List ℕ) (at : ℕ) → at < length bs → (not taken && (get_or bs at 0 == 34)) ≡ true →
+    after_string taken (drop at bs) ≡ Some (drop (at + 1) bs)
+quote_turn taken bs at l h =
+    let s : suc at ≡ at + 1 = omega arith in
+    ap (after_string taken) (drop-cons bs at 0 l) ∙ quote_by taken (get_or bs at 0) (drop (suc at) bs) h ∙ ap (λ n. Some (drop n bs)) s
+
+nothing_after : (taken : Bool) → after_string taken [] ≡ None
+nothing_after true = refl
+nothing_after false = refl
+
+pub string_over : (taken : Bool) (bs : List ℕ) (at : ℕ) → length bs ≤ at → after_string taken (drop at bs) ≡ None
+string_over taken bs at l = ap (after_string taken) (drop_of_length-le bs l) ∙ nothing_after taken
+
+-- what stands behind so many bytes is found so
+pub before_count : (n : ℕ) (text rest : List ℕ) → n ≤ length text → rest ≡ drop n text → length text - length rest ≡ n
+before_count n text rest l e = let d = ap length e ∙ length-drop n text in omega arith

@@ -56,7 +56,7 @@ pub suffix_begins : (text : List ℕ) (ts : List IntTy) (t : IntTy) → suffix_a
 suffix_begins text [] t h = absurd cc
 suffix_begins text (u ∷ ts) t h =
     by_test (begins_word (int_word u) text) (Some u) (suffix_among text ts) (Some t) h
-    (λ b e. subst (λ v. take (length (int_word v)) text ≡ int_word v) (some_same u t e) (same_bytes (take (length (int_word u)) text) (int_word u) b))
+    (λ b e. subst (λ v. take (length (int_word v)) text ≡ int_word v) (some_same u t e) (sym (same_bytes (int_word u) (take (length (int_word u)) text) b)))
     (λ b e. suffix_begins text ts t e)
 
 -- a suffix that ends a text is found, also before more

@@ -1,5 +1,6 @@
 pub mod Characters
 pub mod Words
+pub mod WordGroups
 pub mod Identifiers
 pub mod Numbers
 pub mod Punctuation

@@ -1,7 +1,7 @@
 -- How the lexer finds what begins a text: the length of each form, and one step.
-use Rattle.std.specs.Prelude.{ℕ, suc, zero, ◌+◌, ◌-◌, ◌≤◌, nat_le, Bool, true, false, not, ◌&&◌, ◌==◌, if◌then◌else◌, List, [], ◌∷◌, Option, Some, None, length, take, drop, bytes_eq, chars, encode_utf8_all}
+use Rattle.std.specs.Prelude.{ℕ, suc, zero, ◌+◌, ◌-◌, ◌*◌, ◌≤◌, nat_le, Bool, true, false, not, ◌&&◌, ◌==◌, if◌then◌else◌, List, [], ◌∷◌, Option, Some, None, length, take, drop, bytes_eq, chars, encode_utf8_all}
 use Rattle.std.specs.Option.{option_map}
-use Rattle.std.specs.Char.{is_ascii_digit, encode_utf8}
+use Rattle.std.specs.Char.{is_ascii_digit, digit_value, encode_utf8}
 use Rattle.unicode_ident.specs.Ident.{is_xid_continue}
 use Rattle.aen_base.specs.declared.int_ty.IntTy.{IntTy}
 use Rattle.rust_lex.specs.declared.token.Kind.{Kind}
@@ -11,7 +11,7 @@ use Rattle.rust_lex.specs.declared.step.Step.{Step}
 use Rattle.rust_lex.specs.declared.step.Step.TheVariants as S
 use Rattle.rust_lex.specs.Characters.{begins, begins_two, front, is_white, in_line}
 use Rattle.rust_lex.specs.Words.{int_types, int_word}
-use Rattle.rust_lex.specs.Identifiers.{starts_identifier}
+use Rattle.rust_lex.specs.Identifiers.{starts_identifier, is_named, name_of}
 use Rattle.rust_lex.specs.Numbers.{base_of, prefix_length, after_prefix, is_digit_of, digits_of, suffix_of}
 use Rattle.rust_lex.specs.Punctuation.{is_mark}
 use Rattle.rust_lex.specs.Comments.{begins_line_comment, begins_block_comment}
@@ -39,7 +39,7 @@ after_comment d (c ∷ e ∷ cs) =
 
 -- the length of the integer that begins a text which begins with a digit
 abbrev pub begins_word : List ℕ → List ℕ → Bool
-begins_word w text = bytes_eq (take (length w) text) w
+begins_word w text = bytes_eq w (take (length w) text)
 
 abbrev pub suffix_among : List ℕ → List IntTy → Option IntTy
 suffix_among text [] = None
@@ -56,12 +56,20 @@ number_length false text =
     then prefix_length (base_of text) + length (digits_of text) + suffix_length (suffix_among (suffix_of text) int_types)
     else 1
 
+-- the number that one more digit makes of a number; `_` makes nothing
+abbrev pub with_digit : ℕ → ℕ → ℕ → ℕ
+with_digit base n c = if c == 95 then n else n * base + digit_value c
+
 -- the length of the identifier that begins a text
 abbrev pub length_of : List ℕ → Option ℕ
 length_of cs = if bytes_eq cs (95 ∷ []) then None else Some (length (encode_utf8_all cs))
 
 unfoldable pub identifier_length : List ℕ → Option ℕ
 identifier_length text = if begins starts_identifier (chars text) then length_of (front is_xid_continue (chars text)) else None
+
+-- the name of an identifier, where its NFC is an identifier too
+abbrev pub identifier_name : List ℕ → Option (List ℕ)
+identifier_name w = if is_named w then Some (name_of w) else None
 
 -- the length of what follows `'` in a lifetime
 abbrev pub or_underscore : Option ℕ → List ℕ → Option ℕ
@@ -88,6 +96,9 @@ Found = Option (Form × ℕ)
 abbrev pub of_form : Form → Option ℕ → Found
 of_form form o = option_map (λ n. (form, n)) o
 
+abbrev pub next_count : Option ℕ → Option ℕ
+next_count o = option_map (λ n. suc n) o
+
 abbrev pub or_mark : Option ℕ → List ℕ → Found
 or_mark (Some n) text = Some (Identifier, n)
 or_mark None text = of_form Mark (mark_length text)
@@ -96,12 +107,12 @@ abbrev pub before_rest : ℕ → Option (List ℕ) → Option ℕ
 before_rest all o = option_map (λ rest. all - length rest) o
 
 unfoldable pub found : Bool → List ℕ → Found
-found after_dot [] = None
-found after_dot (c ∷ cs) =
-    if is_ascii_digit c then Some (Number, number_length after_dot (c ∷ cs))
-    else (if c == 34 then of_form Quoted (before_rest (length (c ∷ cs)) (after_string false cs))
-    else (if c == 39 then of_form Lifetime (option_map (λ n. suc n) (lifetime_length cs))
-    else or_mark (identifier_length (c ∷ cs)) (c ∷ cs)))
+found after_dot text =
+    if bytes_eq text [] then None
+    else (if begins is_ascii_digit text then Some (Number, number_length after_dot text)
+    else (if begins (λ c. c == 34) text then of_form Quoted (before_rest (length text) (after_string false (drop 1 text)))
+    else (if begins (λ c. c == 39) text then of_form Lifetime (next_count (lifetime_length (drop 1 text)))
+    else or_mark (identifier_length text) text)))
 
 -- the length of the first character
 abbrev pub first_width : List ℕ → ℕ
@@ -122,9 +133,9 @@ step_comment None text = S.Fault (length text)
 step_comment (Some n) text = S.Gap n
 
 unfoldable pub step : Bool → List ℕ → Step
-step after_dot [] = S.End
-step after_dot (c ∷ cs) =
-    if is_white c then S.Gap 1
-    else (if begins_line_comment (c ∷ cs) then S.Gap (length (front in_line (c ∷ cs)))
-    else (if begins_block_comment (c ∷ cs) then step_comment (before_rest (length (c ∷ cs)) (after_comment 0 (drop 1 cs))) (c ∷ cs)
-    else step_found (found after_dot (c ∷ cs)) (c ∷ cs)))
+step after_dot text =
+    if bytes_eq text [] then S.End
+    else (if begins is_white text then S.Gap 1
+    else (if begins_line_comment text then S.Gap (length (front in_line text))
+    else (if begins_block_comment text then step_comment (before_rest (length text) (after_comment 0 (drop 2 text))) text
+    else step_found (found after_dot text) text)))

@@ -2,7 +2,15 @@
 //! their names, words, lifetimes, integers, strings and punctuation, each with its place.
 #![tactic(auto)]
 
+mod characters;
+mod comments;
+mod identifiers;
+mod marks;
+mod numbers;
 mod step;
 mod token;
+mod words;
 
+pub use identifiers::{ident_end, name_of};
+pub use numbers::integer;
 pub use token::{Base, Form, Integer, Kind, Token, Tokens};
