@@ -16,7 +16,7 @@ import sys
 import tempfile
 import time
 
-from crates import PROGRAM, files, needed, rows_of
+from crates import PROGRAM, files, listed, needed, rows_of
 from sources import kept_sum, sum_of
 
 ROOT = os.path.dirname(os.path.dirname(os.path.abspath(__file__)))
@@ -24,7 +24,7 @@ PARTS = ("src", "specs", "proofs")
 # What one process of a check may take at most, in bytes.
 MEMORY = 3_000_000_000
 # A crate of so many lines gains from more than one process, and hardly from more than MOST.
-LARGE, MOST = 2_500, 4
+LARGE, MOST = 1_000, 4
 # Seconds of one processor for a line of code, definitions or proofs, as measured on whole builds.
 SECONDS_A_LINE = 0.17
 # How often a line tells what is at work where there is no terminal, in seconds.
@@ -256,6 +256,10 @@ def main():
     parser.add_argument("--dry-run", action="store_true", help="tells what it would do")
     parser.add_argument("crates", nargs="*", metavar="CRATE", help="these crates alone, and those below them")
     said = parser.parse_args()
+    for it in said.crates:
+        if it not in listed(ROOT):
+            parser.error(f"crates.txt names no crate {it}")
+    said.jobs = max(said.jobs, 1)
     order = needed(ROOT, said.crates or [PROGRAM])
     if said.dry_run:
         lines = {name: lines_of(ROOT, name) for name in order}
