@@ -55,7 +55,8 @@ def show_places(name, path, said):
     """Shows on standard error the places that a refusal's line names."""
     with open(path, "rb") as it:
         text = show(name, it.read(), said)
-    sys.stderr.write(text.encode(errors="backslashreplace").decode())
+    sys.stderr.buffer.write(text.encode("utf-8", "surrogateescape"))
+    sys.stderr.flush()
 
 
 def run_built(words, shows, folder):
