@@ -14,12 +14,12 @@ use Rattle.rust_lex.specs.Punctuation.{is_mark}
 use Rattle.rust_lex.specs.Numbers.{is_number}
 use Rattle.rust_lex.specs.Lexing.{is_form, is_string, closes_string, IsLongest}
 use Rattle.rust_lex.specs.Scan.{Found, found, of_form, or_mark, or_underscore, before_rest, after_string, identifier_length, lifetime_length, mark_length, number_length}
-use Rattle.rust_lex.proofs.Tests.{choose, and_left, and_right, and_both, or_cases, clash, same_bytes, bytes_same, not_true, some_same, or_true}
+use Rattle.rust_lex.proofs.Tests.{by_test, choose, and_left, and_right, and_both, or_cases, clash, same_bytes, bytes_same, not_true, some_same, or_true}
 use Rattle.rust_lex.proofs.Strings.{Stands, stands_count, string_ended, string_found}
 use Rattle.rust_lex.proofs.Digits.{number_longest, number_is, digits_longest, digits_are}
 use Rattle.rust_lex.proofs.Naming.{IsFoundName, name_found, name_none}
 use Rattle.rust_lex.proofs.Longest.{mark_found, mark_none}
-use Rattle.rust_lex.proofs.Forms.{fits_first, first_fits, is_letter, is_mark_byte, no_form, form_is, form_of, underscore_mark}
+use Rattle.rust_lex.proofs.FirstBytes.{fits_first, first_fits, is_letter, is_mark_byte, no_form, form_is, form_of, underscore_mark}
 
 abbrev pub IsFound : Bool → List ℕ → Found → Type 0
 IsFound dot text None = (g : Form) (m : ℕ) → m ≤ length text → is_form dot g (take m text) ≡ false
@@ -272,3 +272,23 @@ none_by (Some p) dot text h k = absurd (clash (is_form dot p.0 (take p.1 text)) 
 
 pub none_found : (dot : Bool) (text : List ℕ) → IsUtf8 text → ((g : Form) (m : ℕ) → m ≤ length text → is_form dot g (take m text) ≡ false) → found dot text ≡ None
 none_found dot text u k = none_by (found dot text) dot text (is_found dot text u) k
+
+-- ---- what the code asks of a lifetime
+
+pub lifetime_begins : (dot : Bool) (w : List ℕ) → is_form dot Lifetime w ≡ true → begins (λ c. c == 39) w ≡ true
+lifetime_begins dot [] h = absurd cc
+lifetime_begins dot (c ∷ w) h = and_left (c == 39) _ h
+
+pub quote_boundary : (text : List ℕ) → IsUtf8 text → begins (λ c. c == 39) text ≡ true → IsCharBoundary text 1
+quote_boundary [] u h = absurd cc
+quote_boundary (c ∷ cs) u h = let e = eqb-true c 39 h in IsCharBoundary-after_ascii (c ∷ cs) 0 u (omega arith) (omega arith)
+
+pub lifetime_within : (text : List ℕ) (n : ℕ) → IsUtf8 text → lifetime_length text ≡ Some n → n ≤ length text
+lifetime_within text n u h = by_name (identifier_length text) refl h
+  where
+    by_name : (o : Option ℕ) → identifier_length text ≡ o → or_underscore o text ≡ Some n → n ≤ length text
+    by_name (Some k) e f = let q : k ≡ n = some_same k n f in let r = (name_found text k u e).within in omega arith
+    by_name None e f =
+        by_test (begins (λ c. c == 95) text) (Some 1) None (Some n) f
+        (λ b g. let q : 1 ≡ n = some_same 1 n g in let p = (one_byte text b).0 in omega arith)
+        (λ b g. absurd cc)

@@ -6,8 +6,9 @@ pub mod Closing
 pub mod Suffixes
 pub mod Digits
 pub mod Naming
+pub mod Values
 pub mod Longest
-pub mod Forms
+pub mod FirstBytes
 pub mod Founding
 pub mod Boundaries
 pub mod Stepping

@@ -1,16 +1,16 @@
 -- The longest identifier that begins a text.
-use Rattle.std.proofs.Common.{◌≡◌, refl, ap, sym, subst, ◌∙◌, ℕ, zero, suc, ◌+◌, ◌-◌, ◌≤◌, ◌<◌, Bool, true, false, List, [], ◌∷◌, ◌++◌, length, length-append, length-take-le, take, drop, Option, Some, None, IsUtf8, chars, encode_utf8_all, arith}
+use Rattle.std.proofs.Common.{◌≡◌, refl, ap, sym, subst, ◌∙◌, ℕ, zero, suc, ◌+◌, ◌-◌, ◌≤◌, ◌<◌, Bool, true, false, List, [], ◌∷◌, ◌++◌, length, length-append, length-drop, slice_range, length-take-le, take, drop, Option, Some, None, IsUtf8, chars, encode_utf8_all, arith}
 use Rattle.std.specs.Prelude.{◌&&◌, ◌||◌, ◌==◌, not, if◌then◌else◌, bytes_eq}
 use Rattle.std.specs.List.{list_all}
 use Rattle.std.specs.Str.{is_utf8}
-use Rattle.std.proofs.Math.Utf8.{scalars, encodes}
+use Rattle.std.proofs.Math.Utf8.{scalars, encode, encodes}
 use Rattle.std.proofs.Math.Seq.{take-append_seam}
 use Rattle.std.proofs.lemmas.Bool.{eqb-true}
-use Rattle.std.proofs.lemmas.Str.{encodes-chars, chars-encodes, scalars-chars, encodes-append, chars-append, IsUtf8-from_is_utf8, is_utf8-from_IsUtf8}
+use Rattle.std.proofs.lemmas.Str.{encodes-chars, chars-encodes, scalars-chars, encodes-append, chars-append, IsUtf8-from_is_utf8, is_utf8-from_IsUtf8, length-le-encodes, char_from_byte, encode_ascii}
 use Rattle.unicode_ident.specs.Ident.{is_xid_start, is_xid_continue}
 use Rattle.unicode_ident.proofs.IdentLemmas.{is_xid_start-is_xid_continue, is_xid_continue-ascii}
 use Rattle.rust_lex.specs.Characters.{begins, front, back}
-use Rattle.rust_lex.specs.Identifiers.{starts_identifier, are_identifier, is_identifier}
+use Rattle.rust_lex.specs.Identifiers.{starts_identifier, are_identifier, is_identifier, IsIdentifierEnd, NoIdentifier}
 use Rattle.rust_lex.specs.Scan.{identifier_length, length_of}
 use Rattle.rust_lex.proofs.Tests.{by_test, if_true, if_false, and_left, and_right, and_both, or_cases, clash, same_bytes, bytes_same, split, some_same, not_true}
 use Rattle.rust_lex.proofs.Fronting.{front_back, all_front, front_append}
@@ -142,3 +142,80 @@ name_none text m h =
     (λ t e. clash (bytes_eq (front is_xid_continue (chars text)) (95 ∷ [])) t (lone_underscore m text k))
     (λ t e. absurd cc))
     (λ s e. clash (begins starts_identifier (chars text)) (slice_starts m text k) s))
+
+-- ---- the code's test for `_` alone
+
+no_more : (cs : List ℕ) → length (encodes cs) ≡ 0 → cs ≡ []
+no_more [] h = refl
+no_more (c ∷ cs) h = let l = length-le-encodes (c ∷ cs) in absurd (omega arith)
+
+both_equal : (a b : Bool) → (a ≡ true → b ≡ true) → (b ≡ true → a ≡ true) → a ≡ b
+both_equal true b f g = sym (f refl)
+both_equal false true f g = g refl
+both_equal false false f g = refl
+
+-- the first character is the first byte where that is `_`
+first_line : (k : ℕ) (rest text : List ℕ) → encode k ++ rest ≡ text → begins (λ d. d == 95) text ≡ true → k ≡ 95
+first_line k rest [] e h = absurd cc
+first_line k rest (c ∷ cs) e h =
+    let x = eqb-true c 95 h in
+    char_from_byte (c ∷ cs) rest k (sym e) (omega arith) (omega arith) ∙ x
+
+alone_from : (k : ℕ) (fs ks text : List ℕ) → encode k ++ encodes ks ≡ text → (length (encode k ++ encodes fs) == 1) ≡ true → begins (λ d. d == 95) text ≡ true →
+    bytes_eq (k ∷ fs) (95 ∷ []) ≡ true
+alone_from k fs ks text e h b =
+    let p = first_line k (encodes ks) text e b in
+    let w : length (encode k) ≡ 1 = ap (λ x. length (encode x)) p ∙ ap length (encode_ascii 95 (omega arith)) in
+    let q = eqb-true (length (encode k ++ encodes fs)) 1 h in
+    let l = length-append (encode k) (encodes fs) in
+    let n = no_more fs (omega arith) in
+    ap (λ x. bytes_eq (x ∷ fs) (95 ∷ [])) p ∙ ap (λ x. bytes_eq (95 ∷ x) (95 ∷ [])) n
+
+alone_to : (k : ℕ) (fs ks text : List ℕ) → encode k ++ encodes ks ≡ text → bytes_eq (k ∷ fs) (95 ∷ []) ≡ true →
+    ((length (encode k ++ encodes fs) == 1) && begins (λ d. d == 95) text) ≡ true
+alone_to k fs ks text e h =
+    let s = same_bytes (k ∷ fs) (95 ∷ []) h in
+    let p : k ≡ 95 = cc in
+    let n : fs ≡ [] = cc in
+    let a : encode k ≡ 95 ∷ [] = ap encode p ∙ encode_ascii 95 (omega arith) in
+    and_both (length (encode k ++ encodes fs) == 1) (begins (λ d. d == 95) text)
+    (ap (λ x. length (x ++ encodes fs) == 1) a ∙ ap (λ x. length ((95 ∷ []) ++ encodes x) == 1) n)
+    (ap (begins (λ d. d == 95)) (sym e) ∙ ap (λ x. begins (λ d. d == 95) (x ++ encodes ks)) a)
+
+lone_by : (cs : List ℕ) (text : List ℕ) → encodes cs ≡ text → begins starts_identifier cs ≡ true →
+    ((length (encodes (front is_xid_continue cs)) == 1) && begins (λ d. d == 95) text) ≡ bytes_eq (front is_xid_continue cs) (95 ∷ [])
+lone_by [] text e h = absurd cc
+lone_by (k ∷ ks) text e h =
+    let f = if_true (is_xid_continue k) (k ∷ front is_xid_continue ks) [] (start_continues k h) in
+    let P : List ℕ → Type 0 = λ x. ((length (encodes x) == 1) && begins (λ d. d == 95) text) ≡ bytes_eq x (95 ∷ []) in
+    let r : P (k ∷ front is_xid_continue ks) =
+        both_equal ((length (encodes (k ∷ front is_xid_continue ks)) == 1) && begins (λ d. d == 95) text) (bytes_eq (k ∷ front is_xid_continue ks) (95 ∷ []))
+        (λ t. alone_from k (front is_xid_continue ks) ks text e (and_left (length (encodes (k ∷ front is_xid_continue ks)) == 1) (begins (λ d. d == 95) text) t)
+            (and_right (length (encodes (k ∷ front is_xid_continue ks)) == 1) (begins (λ d. d == 95) text) t))
+        (λ t. alone_to k (front is_xid_continue ks) ks text e t) in
+    subst P (sym f) r
+
+pub lone_test : (text : List ℕ) → IsUtf8 text → begins starts_identifier (chars text) ≡ true →
+    ((length (encode_utf8_all (front is_xid_continue (chars text))) == 1) && begins (λ d. d == 95) text) ≡ bytes_eq (front is_xid_continue (chars text)) (95 ∷ [])
+lone_test text u h = lone_by (chars text) text (encodes-chars text u) h
+
+-- ---- an identifier inside a text
+
+slice_at : (text : List ℕ) (at m : ℕ) → slice_range text at m ≡ take (m - at) (drop at text)
+slice_at text at m = refl
+
+pub end_found : (text : List ℕ) (at n : ℕ) → at ≤ length text → IsUtf8 (drop at text) → identifier_length (drop at text) ≡ Some n → IsIdentifierEnd at (at + n) text
+end_found text at n l u h =
+    let r = name_found (drop at text) n u h in
+    let w = r.within in
+    let d = length-drop at text in
+    let e : at + n - at ≡ n = omega arith in
+    record {
+      after = omega arith;
+      within = omega arith;
+      is = ap (λ k. is_identifier (take k (drop at text))) e ∙ r.is;
+      longest = λ m a k i. let x : m - at ≤ n = r.longest (m - at) (omega arith) i in omega arith;
+    }
+
+pub end_none : (text : List ℕ) (at : ℕ) → identifier_length (drop at text) ≡ None → NoIdentifier at text
+end_none text at h m a k = name_none (drop at text) (m - at) h

@@ -13,10 +13,10 @@ use Rattle.rust_lex.specs.declared.step.Step.{Step}
 use Rattle.rust_lex.specs.declared.step.Step.TheVariants as S
 use Rattle.rust_lex.specs.Characters.{begins, begins_two, is_white, in_line}
 use Rattle.rust_lex.specs.Comments.{Closes, Gap, white, line, block, begins_line_comment, begins_block_comment}
-use Rattle.rust_lex.specs.Lexing.{is_form, IsToken, IsFault, span, token, is_dot, Lexes, ends, gap, next, fault, AreTokens}
+use Rattle.rust_lex.specs.Lexing.{is_form, IsToken, IsFault, span, token, is_dot, Lexes, ends, gap, next, fault, AreTokens, NoOthers}
 use Rattle.rust_lex.specs.Scan.{step}
 use Rattle.rust_lex.proofs.Tests.{clash, and_left, and_right}
-use Rattle.rust_lex.proofs.Forms.{no_form}
+use Rattle.rust_lex.proofs.FirstBytes.{no_form}
 use Rattle.rust_lex.proofs.Boundaries.{form_boundary, last_slash}
 use Rattle.rust_lex.proofs.Stepping.{IsStep, step_right, gap_only, token_only, fault_only}
 
@@ -165,7 +165,7 @@ token_turn text list list' at n dot dot' kind r e p q =
 -- these are the tokens and the fault of a text, and nothing else is
 pub record IsWhole (text : List ℕ) (list : List Token) (bad : Option Span) : Type 0 where
   pub tokens : AreTokens text list bad
-  pub only : (ts : List Token) (b : Option Span) → AreTokens text ts b → (ts ≡ list) × (b ≡ bad)
+  pub only : NoOthers text list bad
 
 last_part : (text : List ℕ) (list : List Token) (at : ℕ) (dot : Bool) (bad : Option Span) → Reads text list at dot → Lexes at dot (drop at text) [] bad →
     ((us : List Token) (b : Option Span) → Lexes at dot (drop at text) us b → (us ≡ []) × (b ≡ bad)) → IsWhole text list bad

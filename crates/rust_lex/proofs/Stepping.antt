@@ -21,7 +21,7 @@ use Rattle.rust_lex.proofs.Tests.{choose, if_true, if_false, and_left, and_right
 use Rattle.rust_lex.proofs.Fronting.{drop_front, front_length, all_front, begins_back, front_all, take_front}
 use Rattle.rust_lex.proofs.Strings.{Stands, stands_count}
 use Rattle.rust_lex.proofs.Closing.{read_through, comment_comes, closes_behind}
-use Rattle.rust_lex.proofs.Forms.{fits_first, first_fits, no_form, is_letter, is_mark_byte}
+use Rattle.rust_lex.proofs.FirstBytes.{fits_first, first_fits, no_form, is_letter, is_mark_byte}
 use Rattle.rust_lex.proofs.Founding.{IsFound, is_found, by_first, only_quoted, none_of, longest_found, none_found, the_found}
 
 abbrev pub IsStep : Bool → List ℕ → Step → Type 0

@@ -93,3 +93,7 @@ pub data Lexes : ℕ → Bool → List ℕ → List Token → Option Span → Ty
 -- the tokens of a whole text and its first lexical fault
 abbrev pub AreTokens : List ℕ → List Token → Option Span → Type 0
 AreTokens text ts bad = Lexes 0 false text ts bad
+
+-- no other tokens and no other fault are the text's
+abbrev pub NoOthers : List ℕ → List Token → Option Span → Type 0
+NoOthers text list bad = (ts : List Token) (b : Option Span) → AreTokens text ts b → (ts ≡ list) × (b ≡ bad)

@@ -1,6 +1,6 @@
 //! Identifiers and their names.
 
-ghost use Rattle.std.specs.Prelude.{◌≡◌, ◌≤◌, ◌==◌, length, chars, encode_utf8_all, IfOk, MatchOption, IsCharBoundary};
+ghost use Rattle.std.specs.Prelude.{◌≡◌, ◌≤◌, ◌==◌, length, chars, encode_utf8_all, IfOk, MatchOption, IsCharBoundary, true, bytes_eq, ◌∷◌, []};
 ghost use Rattle.std.specs.List.{list_all};
 ghost use Rattle.std.specs.String.{string_bytes};
 ghost use Rattle.unicode_ident.specs.Ident.{is_xid_continue as continues};
@@ -71,7 +71,17 @@ fn begins_identifier(text: &str) -> bool
     }
 }
 
+/// Whether `count` bytes, which are the characters that may stand in an identifier, are `_` alone.
+fn is_underscore(text: &str, count: usize) -> bool
+    requires starts { begins spec.starts_identifier (chars text.now) ≡ true }
+    requires count { count ≡ length (encode_utf8_all (front continues (chars text.now))) }
+    ensures { result ≡ bytes_eq (front continues (chars text.now)) (95 ∷ []) }
+{
+    (count == 1) & begins_byte(b'_', text.as_bytes())
+}
+
 /// The length of the longest identifier that stands first; None where none does.
+#[tactic(auto, unfolding(crate::specs::Scan::identifier_length))]
 pub(crate) fn identifier_length(text: &str) -> Option<usize>
     ensures { result ≡ scan.identifier_length text.now }
 {
@@ -79,7 +89,7 @@ pub(crate) fn identifier_length(text: &str) -> Option<usize>
         return None;
     }
     let count = continued_length(text);
-    if count == 1 && begins_byte(b'_', text.as_bytes()) {
+    if is_underscore(text, count) {
         return None;
     }
     Some(count)
@@ -91,8 +101,10 @@ pub fn ident_end(text: &str, at: usize) -> Option<usize>
     requires { IsCharBoundary text.now at }
     ensures { MatchOption result (spec.NoIdentifier at text.now) (λ end. spec.IsIdentifierEnd at end text.now) }
 {
-    let count = identifier_length(skip(text, at))?;
-    Some(at + count)
+    match identifier_length(skip(text, at)) {
+        Some(count) => Some(at + count),
+        None => None,
+    }
 }
 
 /// A text of these characters. The only error is want of memory.
@@ -106,11 +118,19 @@ fn text_of(alloc: Global, characters: &[char]) -> Result<String, NoMem>
     Ok(text)
 }
 
+/// The characters of a text. The only error is want of memory.
+fn characters_of(alloc: Global, text: &str) -> Result<Vec<char>, NoMem>
+    ensures { IfOk result (λ v. v.items ≡ chars text.now) }
+{
+    let characters: Vec<char> = text.chars().collect(alloc)?;
+    Ok(characters)
+}
+
 /// The characters of a text in normal form. The only error is want of memory.
 fn normal_of(alloc: Global, text: &str) -> Result<Vec<char>, NoMem>
     ensures { IfOk result (λ v. v.items ≡ nfc (chars text.now)) }
 {
-    let characters: Vec<char> = text.chars().collect(alloc)?;
+    let characters = characters_of(alloc, text)?;
     let mut normal = Vec::new(alloc);
     extend_nfc(&mut normal, characters.as_slice())?;
     Ok(normal)

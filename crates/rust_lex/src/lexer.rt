@@ -1,9 +1,9 @@
 //! A source into its tokens.
 
-ghost use Rattle.std.specs.Prelude.{◌≡◌, ◌→◌, ◌<◌, ◌≤◌, ◌^◌, ◌+◌, length, take, drop, List, Option, IfOk, MatchOption, IsCharBoundary, true, false};
+ghost use Rattle.std.specs.Prelude.{◌≡◌, None, chars, ◌<◌, ◌≤◌, ◌^◌, ◌+◌, length, take, drop, List, Option, IfOk, MatchOption, IsCharBoundary, true, false};
 ghost use Rattle.aen_base.specs.declared.span.Span.{Span};
 ghost use Rattle.rust_lex.specs.declared.token.Token.{Token};
-ghost use Rattle.rust_lex.specs.Characters.{begins};
+ghost use Rattle.rust_lex.specs.Characters.{begins, is_white as is_white_byte};
 ghost use Rattle.rust_lex.specs.Comments.{begins_block_comment};
 ghost use Rattle.rust_lex.specs.Lexing as spec;
 ghost use Rattle.rust_lex.specs.Scan as scan;
@@ -117,12 +117,11 @@ pub fn lex(alloc: Global, text: &str) -> Result<Tokens, NoMem>
     requires { length text.now < 2 ^ 32 }
     ensures tokens { IfOk result (λ r. spec.AreTokens text.now r.list r.bad) }
     ensures only { IfOk result (λ r. spec.NoOthers text.now r.list r.bad) }
-    ensures texts { IfOk result (λ r. spec.AllTexts text.now r.list) }
 {
     let mut list = List::new(alloc);
     let mut at = 0;
     let mut after_dot = false;
-    loop {
+    'reading: loop {
         let rest = skip(text, at);
         match step(alloc, after_dot, rest)? {
             Step::End => return Ok(Tokens { list, bad: None }),

@@ -4,7 +4,10 @@
 
 mod characters;
 mod comments;
+mod forms;
 mod identifiers;
+mod kinds;
+mod lexer;
 mod marks;
 mod numbers;
 mod step;
@@ -12,5 +15,6 @@ mod token;
 mod words;
 
 pub use identifiers::{ident_end, name_of};
+pub use lexer::lex;
 pub use numbers::integer;
 pub use token::{Base, Form, Integer, Kind, Token, Tokens};

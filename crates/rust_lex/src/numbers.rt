@@ -5,7 +5,6 @@ ghost use Rattle.std.specs.Char as char;
 ghost use Rattle.rust_lex.specs.Characters.{begins, front, back};
 ghost use Rattle.rust_lex.specs.Numbers as spec;
 ghost use Rattle.rust_lex.specs.Scan as scan;
-ghost use Rattle.rust_lex.specs.Scan as values;
 ghost use Rattle.rust_lex.specs.Words as spec_words;
 
 use crate::characters::{after, before, begins_two};
@@ -152,7 +151,7 @@ pub(crate) fn number_length(after_dot: bool, bytes: &[u8]) -> usize
 
 /// The number that one more digit makes of a number; `_` makes nothing; None from 2^128 on.
 fn with_digit(number: u128, base: Base, c: u8) -> Option<u128>
-    ensures { MatchOption result (2 ^ 128 ≤ values.with_digit (spec.radix base) number c) (λ v. v ≡ values.with_digit (spec.radix base) number c) }
+    ensures { MatchOption result (2 ^ 128 ≤ scan.with_digit (spec.radix base) number c) (λ v. v ≡ scan.with_digit (spec.radix base) number c) }
 {
     if c == b'_' {
         return Some(number);
