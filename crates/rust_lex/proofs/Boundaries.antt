@@ -1,25 +1,25 @@
 -- What is read of a text leaves a text.
-use Rattle.std.proofs.Common.{◌≡◌, refl, ap, sym, subst, ◌∙◌, ℕ, zero, suc, ◌+◌, ◌-◌, ◌≤◌, ◌<◌, Bool, true, false, List, [], ◌∷◌, ◌++◌, length, length-drop, take, drop, get_or, get_or-drop, Option, Some, None, is_some, IsUtf8, IsCharBoundary, take-append-drop, arith}
-use Rattle.std.specs.Prelude.{◌&&◌, ◌||◌, ◌==◌, nat_lt, if◌then◌else◌, bytes_eq}
+use Rattle.std.proofs.Common.{◌≡◌, refl, ap, sym, subst, ◌∙◌, ℕ, zero, suc, ◌+◌, ◌≤◌, ◌<◌, Bool, true, false, List, [], ◌∷◌, ◌++◌, length, length-drop, take, drop, get_or, get_or-drop, Option, Some, None, is_some, IsUtf8, IsCharBoundary, take-append-drop, arith}
+use Rattle.std.specs.Prelude.{◌&&◌, ◌==◌, nat_lt, bytes_eq}
 use Rattle.std.specs.List.{list_all, list_any}
 use Rattle.std.specs.Char.{is_ascii_digit}
 use Rattle.std.proofs.lemmas.Bool.{eqb-true}
 use Rattle.std.proofs.lemmas.Bool.Decides.{nat_tests}
 use Rattle.std.proofs.lemmas.List.{drop-drop}
-use Rattle.std.proofs.lemmas.Str.{IsUtf8-append, IsUtf8-drop, IsUtf8-from_ascii, IsCharBoundary-from_take, IsCharBoundary-after_ascii, IsCharBoundary-before_ascii, IsCharBoundary-end}
+use Rattle.std.proofs.lemmas.Str.{IsUtf8-append, IsUtf8-from_ascii, IsCharBoundary-from_take, IsCharBoundary-after_ascii}
 use Rattle.aen_base.specs.declared.int_ty.IntTy.{IntTy}
 use Rattle.aen_base.specs.declared.int_ty.IntTy.TheVariants.{U8, U16, U32, U64, U128, Usize, I8, I16, I32, I64, I128, Isize}
 use Rattle.rust_lex.specs.declared.token.Form.{Form}
 use Rattle.rust_lex.specs.declared.token.Form.TheVariants.{Identifier, Lifetime, Number, Quoted, Mark}
 use Rattle.rust_lex.specs.declared.token.Base.{Base}
 use Rattle.rust_lex.specs.declared.token.Base.TheVariants.{Binary, Octal, Decimal, Hexadecimal}
-use Rattle.rust_lex.specs.Characters.{begins, begins_two, front, back, is_white, in_line}
+use Rattle.rust_lex.specs.Characters.{begins, begins_two, front, back}
 use Rattle.rust_lex.specs.Words.{int_word, int_named}
 use Rattle.rust_lex.specs.Identifiers.{is_identifier, is_lifetime}
-use Rattle.rust_lex.specs.Numbers.{is_number, are_digits, base_of, prefix_length, after_prefix, goes_on, is_digit_of, digits_of, suffix_of, is_suffix}
+use Rattle.rust_lex.specs.Numbers.{is_number, are_digits, base_of, prefix_length, after_prefix, goes_on, is_digit_of, suffix_of, is_suffix}
 use Rattle.rust_lex.specs.Punctuation.{is_mark, is_single, is_double, is_triple, single_marks, double_marks, triple_marks}
-use Rattle.rust_lex.specs.Comments.{Closes, here, nested, other, Gap, white, line, block}
-use Rattle.rust_lex.specs.Lexing.{is_form, is_string, closes_string, IsLongest}
+use Rattle.rust_lex.specs.Comments.{Closes, here, nested, other}
+use Rattle.rust_lex.specs.Lexing.{is_form, is_string, closes_string}
 use Rattle.rust_lex.proofs.Tests.{by_test, and_left, and_right, and_both, or_cases, clash, same_bytes}
 use Rattle.rust_lex.proofs.Fronting.{front_back, all_front}
 use Rattle.rust_lex.proofs.Naming.{spelled}

@@ -1,9 +1,9 @@
 -- Where a comment ends.
-use Rattle.std.proofs.Common.{◌≡◌, refl, ap, sym, subst, ◌∙◌, ℕ, zero, suc, ◌+◌, ◌-◌, ◌≤◌, ◌<◌, Bool, true, false, List, [], ◌∷◌, ◌++◌, length, take, drop, length-drop, Option, Some, None, arith}
-use Rattle.std.specs.Prelude.{◌&&◌, ◌==◌, if◌then◌else◌}
+use Rattle.std.proofs.Common.{◌≡◌, refl, ap, sym, subst, ◌∙◌, ℕ, zero, suc, ◌+◌, ◌-◌, ◌≤◌, ◌<◌, true, false, List, [], ◌∷◌, length, drop, length-drop, Option, Some, None, arith}
+use Rattle.std.specs.Prelude.{◌&&◌, ◌==◌}
 use Rattle.std.proofs.lemmas.List.{drop-drop}
 use Rattle.std.proofs.lemmas.Bool.{eqb-true}
-use Rattle.rust_lex.specs.Characters.{begins, begins_two}
+use Rattle.rust_lex.specs.Characters.{begins}
 use Rattle.rust_lex.specs.Comments.{Closes, here, nested, other, begins_block_comment, ends_block_comment}
 use Rattle.rust_lex.specs.Scan.{after_comment, closed}
 use Rattle.rust_lex.proofs.Tests.{by_test, if_true, if_false, and_left, and_right, clash}

@@ -1,18 +1,18 @@
 -- The longest integer that begins a text.
-use Rattle.std.proofs.Common.{◌≡◌, refl, ap, sym, subst, ◌∙◌, ℕ, zero, suc, ◌+◌, ◌-◌, ◌≤◌, Bool, true, false, List, [], ◌∷◌, ◌++◌, length, length-append, length-drop, length-take-le, take, drop, take-add, drop_at, take_at, append-nil, Option, Some, None, arith}
-use Rattle.std.specs.Prelude.{◌&&◌, ◌||◌, ◌==◌, nat_lt, if◌then◌else◌, bytes_eq}
+use Rattle.std.proofs.Common.{◌≡◌, refl, ap, sym, ◌∙◌, ℕ, zero, suc, ◌+◌, ◌-◌, ◌≤◌, Bool, true, false, List, [], ◌∷◌, ◌++◌, length, length-append, length-drop, length-take-le, take, drop, Option, Some, None, arith}
+use Rattle.std.specs.Prelude.{◌&&◌, ◌==◌}
 use Rattle.std.specs.List.{list_all}
-use Rattle.std.specs.Char.{is_ascii_digit, digit_value}
+use Rattle.std.specs.Char.{is_ascii_digit}
 use Rattle.std.proofs.lemmas.Bool.Decides.{nat_tests}
-use Rattle.std.proofs.lemmas.List.{drop-take, take-append-le}
+use Rattle.std.proofs.lemmas.List.{drop-take}
 use Rattle.aen_base.specs.declared.int_ty.IntTy.{IntTy}
 use Rattle.rust_lex.specs.declared.token.Base.{Base}
 use Rattle.rust_lex.specs.declared.token.Base.TheVariants.{Binary, Octal, Decimal, Hexadecimal}
-use Rattle.rust_lex.specs.Characters.{begins, begins_two, front, back}
+use Rattle.rust_lex.specs.Characters.{begins, front, back}
 use Rattle.rust_lex.specs.Words.{int_types, int_word}
-use Rattle.rust_lex.specs.Numbers.{base_of, prefix_length, after_prefix, is_digit_of, goes_on, digits_of, suffix_of, is_suffix, is_number, are_digits, radix}
+use Rattle.rust_lex.specs.Numbers.{base_of, prefix_length, after_prefix, is_digit_of, goes_on, is_suffix, is_number, are_digits}
 use Rattle.rust_lex.specs.Scan.{suffix_among, suffix_length, number_length}
-use Rattle.rust_lex.proofs.Tests.{by_test, choose, if_true, if_false, and_left, and_right, and_both, and_false, clash, begins_take, not_true, split}
+use Rattle.rust_lex.proofs.Tests.{choose, if_true, if_false, and_left, and_right, and_both, and_false, begins_take, split}
 use Rattle.rust_lex.proofs.Fronting.{front_back, front_length, all_front, begins_back, front_all, back_all, front_longest, front_inside, back_inside, whole_front, take_front}
 use Rattle.rust_lex.proofs.Suffixes.{suffix_counted, suffix_begins, word_is_suffix}
 

@@ -1,9 +1,9 @@
 -- The first byte of a token tells its form; `_` alone is a mark.
-use Rattle.std.proofs.Common.{◌≡◌, refl, ap, sym, subst, ◌∙◌, ℕ, zero, suc, ◌+◌, ◌≤◌, ◌<◌, Bool, true, false, List, [], ◌∷◌, ◌++◌, length, get_or, take, drop, Option, Some, None, IsUtf8, chars, encode_utf8_all, inl, inr, ◌⊎◌, arith}
+use Rattle.std.proofs.Common.{◌≡◌, refl, ap, sym, subst, ◌∙◌, ℕ, ◌<◌, Bool, true, false, List, [], ◌∷◌, ◌++◌, length, drop, chars, arith}
 use Rattle.std.specs.Prelude.{◌&&◌, ◌||◌, ◌==◌, not, nat_le, nat_lt, if◌then◌else◌, bytes_eq}
 use Rattle.std.specs.List.{list_all, list_any}
 use Rattle.std.specs.Char.{is_ascii_digit, is_ascii_alphabetic}
-use Rattle.std.proofs.Math.Utf8.{encode, encodes}
+use Rattle.std.proofs.Math.Utf8.{encodes}
 use Rattle.std.proofs.lemmas.Bool.{eqb-true}
 use Rattle.std.proofs.lemmas.Bool.Decides.{nat_tests}
 use Rattle.std.proofs.lemmas.Str.{encodes-chars, chars-encodes, char_from_byte, encode_ascii, length-le-encodes}
@@ -13,12 +13,12 @@ use Rattle.rust_lex.specs.declared.token.Form.{Form}
 use Rattle.rust_lex.specs.declared.token.Form.TheVariants.{Identifier, Lifetime, Number, Quoted, Mark}
 use Rattle.rust_lex.specs.declared.token.Base.TheVariants.{Decimal}
 use Rattle.rust_lex.specs.Characters.{begins, begins_two, is_white}
-use Rattle.rust_lex.specs.Identifiers.{is_identifier, is_lifetime, starts_identifier}
-use Rattle.rust_lex.specs.Numbers.{is_number, are_digits, base_of, after_prefix, is_digit_of, prefix_length, is_suffix, suffix_of}
+use Rattle.rust_lex.specs.Identifiers.{is_identifier, starts_identifier}
+use Rattle.rust_lex.specs.Numbers.{is_number, base_of, after_prefix, is_digit_of, prefix_length}
 use Rattle.rust_lex.specs.Punctuation.{is_mark, is_single, is_double, is_triple, single_marks, double_marks, triple_marks}
-use Rattle.rust_lex.specs.Lexing.{is_form, is_string, closes_string}
-use Rattle.rust_lex.proofs.Tests.{by_test, if_true, if_false, and_left, and_right, and_both, or_cases, clash, same_bytes, not_true}
-use Rattle.rust_lex.proofs.Naming.{Spelled, spelled}
+use Rattle.rust_lex.specs.Lexing.{is_form}
+use Rattle.rust_lex.proofs.Tests.{if_true, if_false, and_left, and_right, or_cases, clash, same_bytes}
+use Rattle.rust_lex.proofs.Naming.{spelled}
 
 -- a byte that an identifier may begin with
 abbrev pub is_letter : ℕ → Bool

@@ -1,6 +1,6 @@
 -- What is found is the longest slice of a token's form, and where nothing is found there is none.
-use Rattle.std.proofs.Common.{◌≡◌, refl, ap, sym, subst, ◌∙◌, ℕ, zero, suc, ◌+◌, ◌-◌, ◌≤◌, Bool, true, false, List, [], ◌∷◌, ◌++◌, length, length-drop, take, drop, Option, Some, None, IsUtf8, IsCharBoundary, arith}
-use Rattle.std.specs.Prelude.{◌&&◌, ◌||◌, ◌==◌, if◌then◌else◌, bytes_eq}
+use Rattle.std.proofs.Common.{◌≡◌, refl, ap, sym, subst, ◌∙◌, ℕ, zero, suc, ◌+◌, ◌-◌, ◌≤◌, Bool, true, false, List, [], ◌∷◌, length, length-drop, take, drop, Option, Some, None, IsUtf8, IsCharBoundary, arith}
+use Rattle.std.specs.Prelude.{◌||◌, ◌==◌, bytes_eq}
 use Rattle.std.specs.Option.{option_map}
 use Rattle.std.specs.Char.{is_ascii_digit}
 use Rattle.std.proofs.lemmas.Bool.{eqb-true}
@@ -11,10 +11,9 @@ use Rattle.rust_lex.specs.declared.token.Form.TheVariants.{Identifier, Lifetime,
 use Rattle.rust_lex.specs.Characters.{begins}
 use Rattle.rust_lex.specs.Identifiers.{is_identifier, is_lifetime}
 use Rattle.rust_lex.specs.Punctuation.{is_mark}
-use Rattle.rust_lex.specs.Numbers.{is_number}
 use Rattle.rust_lex.specs.Lexing.{is_form, is_string, closes_string, IsLongest}
 use Rattle.rust_lex.specs.Scan.{Found, found, of_form, or_mark, or_underscore, before_rest, after_string, identifier_length, lifetime_length, mark_length, number_length}
-use Rattle.rust_lex.proofs.Tests.{by_test, choose, and_left, and_right, and_both, or_cases, clash, same_bytes, bytes_same, not_true, some_same, or_true}
+use Rattle.rust_lex.proofs.Tests.{by_test, choose, and_left, and_right, and_both, or_cases, clash, not_true, some_same, or_true}
 use Rattle.rust_lex.proofs.Strings.{Stands, stands_count, string_ended, string_found}
 use Rattle.rust_lex.proofs.Digits.{number_longest, number_is, digits_longest, digits_are}
 use Rattle.rust_lex.proofs.Naming.{IsFoundName, name_found, name_none}

@@ -1,7 +1,6 @@
 -- The longest punctuation that begins a text.
-use Rattle.std.proofs.Common.{◌≡◌, refl, ap, sym, subst, ◌∙◌, ℕ, zero, suc, ◌≤◌, ◌<◌, Bool, true, false, List, [], ◌∷◌, length, take, Option, Some, None, arith}
-use Rattle.std.specs.Prelude.{◌&&◌, nat_le, if◌then◌else◌}
-use borrow.Author.Tests.{ltb-true}
+use Rattle.std.proofs.Common.{◌≡◌, refl, subst, ℕ, zero, suc, ◌≤◌, ◌<◌, Bool, true, false, List, [], ◌∷◌, length, take, Some, None, arith}
+use Rattle.std.specs.Prelude.{nat_le, if◌then◌else◌}
 use Rattle.std.proofs.lemmas.Bool.Decides.{nat_tests}
 use Rattle.rust_lex.specs.Punctuation.{is_mark}
 use Rattle.rust_lex.specs.Scan.{is_mark_of, mark_length}

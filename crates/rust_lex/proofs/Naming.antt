@@ -1,6 +1,6 @@
 -- The longest identifier that begins a text.
-use Rattle.std.proofs.Common.{◌≡◌, refl, ap, sym, subst, ◌∙◌, ℕ, zero, suc, ◌+◌, ◌-◌, ◌≤◌, ◌<◌, Bool, true, false, List, [], ◌∷◌, ◌++◌, length, length-append, length-drop, slice_range, length-take-le, take, drop, Option, Some, None, IsUtf8, chars, encode_utf8_all, arith}
-use Rattle.std.specs.Prelude.{◌&&◌, ◌||◌, ◌==◌, not, if◌then◌else◌, bytes_eq}
+use Rattle.std.proofs.Common.{◌≡◌, refl, ap, sym, subst, ◌∙◌, ℕ, ◌+◌, ◌-◌, ◌≤◌, Bool, true, false, List, [], ◌∷◌, ◌++◌, length, length-append, length-drop, slice_range, length-take-le, take, drop, Some, None, IsUtf8, chars, encode_utf8_all, arith}
+use Rattle.std.specs.Prelude.{◌&&◌, ◌==◌, not, bytes_eq}
 use Rattle.std.specs.List.{list_all}
 use Rattle.std.specs.Str.{is_utf8}
 use Rattle.std.proofs.Math.Utf8.{scalars, encode, encodes}
@@ -12,7 +12,7 @@ use Rattle.unicode_ident.proofs.IdentLemmas.{is_xid_start-is_xid_continue, is_xi
 use Rattle.rust_lex.specs.Characters.{begins, front, back}
 use Rattle.rust_lex.specs.Identifiers.{starts_identifier, are_identifier, is_identifier, IsIdentifierEnd, NoIdentifier}
 use Rattle.rust_lex.specs.Scan.{identifier_length, length_of}
-use Rattle.rust_lex.proofs.Tests.{by_test, if_true, if_false, and_left, and_right, and_both, or_cases, clash, same_bytes, bytes_same, split, some_same, not_true}
+use Rattle.rust_lex.proofs.Tests.{by_test, if_true, and_left, and_right, and_both, or_cases, clash, same_bytes, split, some_same, not_true}
 use Rattle.rust_lex.proofs.Fronting.{front_back, all_front, front_append}
 
 -- what may begin an identifier may go on one

@@ -1,19 +1,18 @@
 -- A text read token by token.
-use Rattle.std.proofs.Common.{◌≡◌, refl, ap, sym, subst, ◌∙◌, ℕ, zero, suc, ◌+◌, ◌-◌, ◌≤◌, ◌<◌, ◌^◌, Bool, true, false, List, [], ◌∷◌, ◌++◌, length, length-drop, take, drop, get_or, append_assoc, append-nil, Option, Some, None, IsUtf8, IsCharBoundary, arith}
+use Rattle.std.proofs.Common.{◌≡◌, refl, ap, sym, subst, ◌∙◌, ℕ, zero, suc, ◌+◌, ◌≤◌, ◌<◌, Bool, true, false, List, [], ◌∷◌, ◌++◌, length, length-append, length-drop, encode_utf8, take, drop, get_or, append_assoc, append-nil, Option, Some, None, IsUtf8, IsCharBoundary, arith}
 use Rattle.std.specs.Prelude.{◌==◌}
-use Rattle.std.specs.List.{list_all}
 use Rattle.std.proofs.lemmas.Bool.{eqb-true}
 use Rattle.std.proofs.lemmas.Bool.Decides.{nat_tests}
 use Rattle.std.proofs.lemmas.List.{drop-drop}
-use Rattle.std.proofs.lemmas.Str.{IsUtf8-drop, IsUtf8-take, IsCharBoundary-from_drop, IsCharBoundary-after_ascii, IsCharBoundary-before_ascii, IsCharBoundary-end}
+use Rattle.std.proofs.lemmas.Str.{IsUtf8-drop, IsCharBoundary-from_drop, IsCharBoundary-after_ascii, IsCharBoundary-before_ascii, IsCharBoundary-end}
 use Rattle.aen_base.specs.declared.span.Span.{Span}
 use Rattle.rust_lex.specs.declared.token.Kind.{Kind}
 use Rattle.rust_lex.specs.declared.token.Token.{Token}
 use Rattle.rust_lex.specs.declared.step.Step.{Step}
 use Rattle.rust_lex.specs.declared.step.Step.TheVariants as S
-use Rattle.rust_lex.specs.Characters.{begins, begins_two, is_white, in_line}
+use Rattle.rust_lex.specs.Characters.{begins, in_line}
 use Rattle.rust_lex.specs.Comments.{Closes, Gap, white, line, block, begins_line_comment, begins_block_comment}
-use Rattle.rust_lex.specs.Lexing.{is_form, IsToken, IsFault, span, token, is_dot, Lexes, ends, gap, next, fault, AreTokens, NoOthers}
+use Rattle.rust_lex.specs.Lexing.{IsToken, IsFault, string, comment, malformed, stray, span, token, is_dot, Lexes, ends, gap, next, fault, AreTokens, NoOthers}
 use Rattle.rust_lex.specs.Scan.{step}
 use Rattle.rust_lex.proofs.Tests.{clash, and_left, and_right}
 use Rattle.rust_lex.proofs.FirstBytes.{no_form}
@@ -187,3 +186,25 @@ pub fault_turn : (text : List ℕ) (list : List Token) (at n : ℕ) (dot : Bool)
 fault_turn text list at n dot r e =
     let f : IsFault dot n (drop at text) = right_by (S.Fault n) dot (drop at text) r.utf8 e in
     last_part text list at dot (Some (span at n)) r (fault f) (λ us b l. left_by (S.Fault n) at dot (drop at text) us b r.utf8 e l)
+
+-- ---- how far a step goes
+
+pub gap_far : (text : List ℕ) (list : List Token) (at n : ℕ) (dot : Bool) → Reads text list at dot → step dot (drop at text) ≡ S.Gap n → (1 ≤ n) × (at + n ≤ length text)
+gap_far text list at n dot r e =
+    let a = gap_advances n (drop at text) r.utf8 (right_by (S.Gap n) dot (drop at text) r.utf8 e) in
+    (a.some, inside at n text r.within a.within)
+
+pub token_far : (text : List ℕ) (list : List Token) (at n : ℕ) (dot : Bool) (kind : Kind) → Reads text list at dot → step dot (drop at text) ≡ S.Token kind n →
+    (1 ≤ n) × (at + n ≤ length text) × (n ≤ length (drop at text))
+token_far text list at n dot kind r e =
+    let a = token_advances dot n kind (drop at text) r.utf8 (right_by (S.Token kind n) dot (drop at text) r.utf8 e) in
+    (a.some, inside at n text r.within a.within, a.within)
+
+fault_within : (dot : Bool) (n : ℕ) (text : List ℕ) → IsFault dot n text → n ≤ length text
+fault_within dot n text (string h k) = omega arith
+fault_within dot n text (comment h k) = omega arith
+fault_within dot n text (malformed form a h e) = a.within
+fault_within dot n text (stray c rest e w h q f) = let l = ap length e ∙ length-append (encode_utf8 c) rest in omega arith
+
+pub fault_far : (text : List ℕ) (list : List Token) (at n : ℕ) (dot : Bool) → Reads text list at dot → step dot (drop at text) ≡ S.Fault n → at + n ≤ length text
+fault_far text list at n dot r e = inside at n text r.within (fault_within dot n (drop at text) (right_by (S.Fault n) dot (drop at text) r.utf8 e))

@@ -1,9 +1,7 @@
 -- One step takes what the text begins with, and nothing else can be taken.
-use Rattle.std.proofs.Common.{◌≡◌, refl, ap, sym, subst, ◌∙◌, ℕ, zero, suc, ◌+◌, ◌-◌, ◌≤◌, ◌<◌, Bool, true, false, List, [], ◌∷◌, ◌++◌, length, length-append, length-drop, length-take-le, take, drop, take-append-drop, Option, Some, None, IsUtf8, chars, encode_utf8, arith}
-use Rattle.std.specs.Prelude.{◌&&◌, ◌||◌, ◌==◌, if◌then◌else◌}
-use Rattle.std.specs.Option.{option_map}
+use Rattle.std.proofs.Common.{◌≡◌, refl, ap, sym, subst, ◌∙◌, ℕ, zero, suc, ◌-◌, ◌≤◌, Bool, true, false, List, [], ◌∷◌, ◌++◌, length, length-append, length-drop, length-take-le, take, drop, take-append-drop, Option, Some, None, IsUtf8, chars, encode_utf8, arith}
+use Rattle.std.specs.Prelude.{◌==◌}
 use Rattle.std.specs.List.{list_all}
-use Rattle.std.specs.Char.{is_ascii_digit}
 use Rattle.std.proofs.Math.Utf8.{encode, encodes}
 use Rattle.std.proofs.lemmas.Bool.{eqb-true}
 use Rattle.std.proofs.lemmas.Bool.Decides.{nat_tests}
@@ -13,16 +11,16 @@ use Rattle.rust_lex.specs.declared.token.Form.{Form}
 use Rattle.rust_lex.specs.declared.token.Form.TheVariants.{Identifier, Lifetime, Number, Quoted, Mark}
 use Rattle.rust_lex.specs.declared.step.Step.{Step}
 use Rattle.rust_lex.specs.declared.step.Step.TheVariants as S
-use Rattle.rust_lex.specs.Characters.{begins, begins_two, front, is_white, in_line}
+use Rattle.rust_lex.specs.Characters.{begins, front, is_white, in_line}
 use Rattle.rust_lex.specs.Comments.{Closes, Gap, white, line, block, begins_comment, begins_line_comment, begins_block_comment}
 use Rattle.rust_lex.specs.Lexing.{is_form, is_string, kind_of, IsLongest, IsToken, IsFault, string, comment, malformed, stray}
 use Rattle.rust_lex.specs.Scan.{Found, found, step, step_found, step_comment, before_rest, after_comment, first_width, of_kind}
 use Rattle.rust_lex.proofs.Tests.{choose, if_true, if_false, and_left, and_right, clash, not_true, or_left, or_right, some_same}
 use Rattle.rust_lex.proofs.Fronting.{drop_front, front_length, all_front, begins_back, front_all, take_front}
-use Rattle.rust_lex.proofs.Strings.{Stands, stands_count}
+use Rattle.rust_lex.proofs.Strings.{Stands}
 use Rattle.rust_lex.proofs.Closing.{read_through, comment_comes, closes_behind}
-use Rattle.rust_lex.proofs.FirstBytes.{fits_first, first_fits, no_form, is_letter, is_mark_byte}
-use Rattle.rust_lex.proofs.Founding.{IsFound, is_found, by_first, only_quoted, none_of, longest_found, none_found, the_found}
+use Rattle.rust_lex.proofs.FirstBytes.{fits_first, first_fits, no_form}
+use Rattle.rust_lex.proofs.Founding.{IsFound, is_found, by_first, only_quoted, none_of, longest_found, none_found}
 
 abbrev pub IsStep : Bool → List ℕ → Step → Type 0
 IsStep dot text S.End = text ≡ []

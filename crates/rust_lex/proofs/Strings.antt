@@ -1,7 +1,7 @@
 -- Where a string ends.
-use Rattle.std.proofs.Common.{◌≡◌, refl, ap, sym, ◌∙◌, ℕ, zero, suc, ◌+◌, ◌-◌, ◌≤◌, ◌<◌, Bool, true, false, List, [], ◌∷◌, ◌++◌, length, take, drop, length-drop, drop-cons, drop_of_length-le, get_or, not, Option, Some, None, arith}
-use Rattle.std.specs.Prelude.{◌&&◌, ◌==◌, if◌then◌else◌, bytes_eq}
-use Rattle.rust_lex.specs.Lexing.{closes_string, is_string}
+use Rattle.std.proofs.Common.{◌≡◌, refl, ap, sym, ◌∙◌, ℕ, zero, suc, ◌+◌, ◌-◌, ◌≤◌, ◌<◌, Bool, true, false, List, [], ◌∷◌, length, take, drop, length-drop, drop-cons, drop_of_length-le, get_or, not, Some, None, arith}
+use Rattle.std.specs.Prelude.{◌&&◌, ◌==◌, bytes_eq}
+use Rattle.rust_lex.specs.Lexing.{closes_string}
 use Rattle.rust_lex.specs.Scan.{after_string}
 use Rattle.rust_lex.proofs.Tests.{by_test, if_true, if_false}
 

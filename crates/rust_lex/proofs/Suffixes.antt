@@ -1,13 +1,10 @@
 -- The integer type that an integer names at its end.
-use Rattle.std.proofs.Common.{◌≡◌, refl, ap, sym, subst, ◌∙◌, ℕ, zero, suc, ◌+◌, ◌-◌, ◌≤◌, Bool, true, false, List, [], ◌∷◌, ◌++◌, length, take, drop, Option, Some, None, is_some, arith}
-use Rattle.std.specs.Prelude.{◌&&◌, ◌==◌, if◌then◌else◌, bytes_eq}
+use Rattle.std.proofs.Common.{◌≡◌, refl, ap, sym, subst, ◌∙◌, ℕ, true, List, [], ◌∷◌, ◌++◌, length, take, Option, Some, None, is_some}
+use Rattle.std.specs.Prelude.{bytes_eq}
 use Rattle.aen_base.specs.declared.int_ty.IntTy.{IntTy}
 use Rattle.aen_base.specs.declared.int_ty.IntTy.TheVariants.{U8, U16, U32, U64, U128, Usize, I8, I16, I32, I64, I128, Isize}
-use Rattle.rust_lex.specs.Characters.{begins}
 use Rattle.rust_lex.specs.Words.{int_types, int_word, int_named, int_among}
-use Rattle.rust_lex.specs.Numbers.{is_suffix, goes_on}
-use Rattle.rust_lex.specs.declared.token.Base.{Base}
-use Rattle.rust_lex.specs.declared.token.Base.TheVariants.{Binary, Octal, Decimal, Hexadecimal}
+use Rattle.rust_lex.specs.Numbers.{is_suffix}
 use Rattle.rust_lex.specs.Scan.{begins_word, suffix_among, suffix_length}
 use Rattle.rust_lex.proofs.Tests.{by_test, same_bytes, some_same}
 

@@ -1,5 +1,5 @@
 -- White space and comments (LANGUAGE.md, "Tokens").
-use Rattle.std.specs.Prelude.{◌≡◌, ℕ, ◌≤◌, Bool, true, false, ◌||◌, List, [], ◌∷◌, length, take, drop}
+use Rattle.std.specs.Prelude.{◌≡◌, ℕ, ◌≤◌, Bool, true, false, ◌||◌, List, ◌∷◌, length, take, drop}
 use Rattle.std.specs.List.{list_all}
 use Rattle.rust_lex.specs.Characters.{begins, begins_two, is_white, in_line}
 

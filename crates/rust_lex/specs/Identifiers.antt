@@ -1,5 +1,5 @@
 -- Identifiers and their names (LANGUAGE.md, "Tokens").
-use Rattle.std.specs.Prelude.{◌≡◌, ℕ, ◌≤◌, ◌-◌, Bool, true, false, not, ◌&&◌, ◌||◌, ◌==◌, if◌then◌else◌, List, [], ◌∷◌, Option, Some, None, length, bytes_eq, chars, encode_utf8_all, take, drop, codes}
+use Rattle.std.specs.Prelude.{◌≡◌, ℕ, ◌≤◌, Bool, true, false, not, ◌&&◌, ◌||◌, ◌==◌, if◌then◌else◌, List, [], ◌∷◌, Option, Some, None, length, bytes_eq, chars, encode_utf8_all, codes}
 use Rattle.std.specs.List.{list_all, slice_range}
 use Rattle.std.specs.Str.{is_utf8}
 use Rattle.unicode_ident.specs.Ident.{is_xid_start, is_xid_continue}

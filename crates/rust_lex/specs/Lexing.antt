@@ -1,5 +1,5 @@
 -- A text and its tokens (LANGUAGE.md, "Tokens").
-use Rattle.std.specs.Prelude.{◌≡◌, ℕ, ◌+◌, ◌≤◌, Bool, true, false, ◌&&◌, ◌||◌, ◌==◌, if◌then◌else◌, List, [], ◌∷◌, ◌++◌, Option, Some, None, length, take, drop, bytes_eq, codes}
+use Rattle.std.specs.Prelude.{◌≡◌, ℕ, ◌+◌, ◌≤◌, Bool, true, false, ◌&&◌, ◌==◌, if◌then◌else◌, List, [], ◌∷◌, ◌++◌, Option, Some, None, length, take, drop, bytes_eq, codes}
 use Rattle.std.specs.Char.{encode_utf8}
 use Rattle.aen_base.specs.declared.span.Span.{Span}
 use Rattle.rust_lex.specs.declared.token.Kind.{Kind}
@@ -72,8 +72,11 @@ pub data IsFault : Bool → ℕ → List ℕ → Type 0 where
 abbrev pub span : ℕ → ℕ → Span
 span at n = record { lo = at; hi = at + n }
 
+abbrev pub token_at : Kind → Span → Token
+token_at kind span = record { kind = kind; span = span }
+
 abbrev pub token : Kind → ℕ → ℕ → Token
-token kind at n = record { kind = kind; span = span at n }
+token kind at n = token_at kind (span at n)
 
 abbrev pub is_dot : List ℕ → Bool
 is_dot w = bytes_eq w (codes ".")

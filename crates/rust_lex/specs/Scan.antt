@@ -1,5 +1,5 @@
 -- How the lexer finds what begins a text: the length of each form, and one step.
-use Rattle.std.specs.Prelude.{ℕ, suc, zero, ◌+◌, ◌-◌, ◌*◌, ◌≤◌, nat_le, Bool, true, false, not, ◌&&◌, ◌==◌, if◌then◌else◌, List, [], ◌∷◌, Option, Some, None, length, take, drop, bytes_eq, chars, encode_utf8_all}
+use Rattle.std.specs.Prelude.{ℕ, suc, zero, ◌+◌, ◌-◌, ◌*◌, nat_le, Bool, true, false, ◌&&◌, ◌==◌, if◌then◌else◌, List, [], ◌∷◌, Option, Some, None, length, take, drop, bytes_eq, chars, encode_utf8_all}
 use Rattle.std.specs.Option.{option_map}
 use Rattle.std.specs.Char.{is_ascii_digit, digit_value, encode_utf8}
 use Rattle.unicode_ident.specs.Ident.{is_xid_continue}
@@ -9,7 +9,7 @@ use Rattle.rust_lex.specs.declared.token.Form.{Form}
 use Rattle.rust_lex.specs.declared.token.Form.TheVariants.{Identifier, Lifetime, Number, Quoted, Mark}
 use Rattle.rust_lex.specs.declared.step.Step.{Step}
 use Rattle.rust_lex.specs.declared.step.Step.TheVariants as S
-use Rattle.rust_lex.specs.Characters.{begins, begins_two, front, is_white, in_line}
+use Rattle.rust_lex.specs.Characters.{begins, front, is_white, in_line}
 use Rattle.rust_lex.specs.Words.{int_types, int_word}
 use Rattle.rust_lex.specs.Identifiers.{starts_identifier, is_named, name_of}
 use Rattle.rust_lex.specs.Numbers.{base_of, prefix_length, after_prefix, is_digit_of, digits_of, suffix_of}
