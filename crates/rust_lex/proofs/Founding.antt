@@ -99,10 +99,13 @@ string_case dot c cs h = by_rest (after_string false cs) refl
       where
         suc_le : (a b : ℕ) → a ≤ b → suc a ≤ suc b
         suc_le a b h = omega arith
+
         rest_short : (k : ℕ) (cs rest : List ℕ) → Stands k cs rest → length cs ≡ k + length rest
         rest_short k cs rest s = let w = s.within in let d = ap length (sym s.left) ∙ length-drop k cs in omega arith
+
         by_arith : (a b k : ℕ) → k ≤ a → a - b ≡ k → a ≡ k + b → suc a - b ≡ suc k
         by_arith a b k p q r = omega arith
+
         same_length : (c : ℕ) (cs rest : List ℕ) (k m : ℕ) → m ≤ length (c ∷ cs) → Stands k cs rest →
             (after_string false cs ≡ Some (drop m (c ∷ cs))) × (1 ≤ m) → after_string false cs ≡ Some rest → m ≤ suc k
         same_length c cs rest k m l s p e =

@@ -13,3 +13,4 @@ pub mod Founding
 pub mod Boundaries
 pub mod Stepping
 pub mod Reading
+pub mod Slicing

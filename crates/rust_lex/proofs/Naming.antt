@@ -189,10 +189,10 @@ lone_by (k ∷ ks) text e h =
     let f = if_true (is_xid_continue k) (k ∷ front is_xid_continue ks) [] (start_continues k h) in
     let P : List ℕ → Type 0 = λ x. ((length (encodes x) == 1) && begins (λ d. d == 95) text) ≡ bytes_eq x (95 ∷ []) in
     let r : P (k ∷ front is_xid_continue ks) =
-        both_equal ((length (encodes (k ∷ front is_xid_continue ks)) == 1) && begins (λ d. d == 95) text) (bytes_eq (k ∷ front is_xid_continue ks) (95 ∷ []))
-        (λ t. alone_from k (front is_xid_continue ks) ks text e (and_left (length (encodes (k ∷ front is_xid_continue ks)) == 1) (begins (λ d. d == 95) text) t)
-            (and_right (length (encodes (k ∷ front is_xid_continue ks)) == 1) (begins (λ d. d == 95) text) t))
-        (λ t. alone_to k (front is_xid_continue ks) ks text e t) in
+    both_equal ((length (encodes (k ∷ front is_xid_continue ks)) == 1) && begins (λ d. d == 95) text) (bytes_eq (k ∷ front is_xid_continue ks) (95 ∷ []))
+    (λ t. alone_from k (front is_xid_continue ks) ks text e (and_left (length (encodes (k ∷ front is_xid_continue ks)) == 1) (begins (λ d. d == 95) text) t)
+    (and_right (length (encodes (k ∷ front is_xid_continue ks)) == 1) (begins (λ d. d == 95) text) t))
+    (λ t. alone_to k (front is_xid_continue ks) ks text e t) in
     subst P (sym f) r
 
 pub lone_test : (text : List ℕ) → IsUtf8 text → begins starts_identifier (chars text) ≡ true →

@@ -39,6 +39,7 @@ line_boundary n text u l h = by_rest (drop n text) refl h
       where
         feed : (c : ℕ) → in_line c ≡ false → c ≡ 10
         feed c h = grind (arith, nat_tests)
+
         first_at : (n : ℕ) (text : List ℕ) (c : ℕ) (r : List ℕ) → drop n text ≡ c ∷ r → get_or text n 0 ≡ c
         first_at zero [] c r e = absurd cc
         first_at zero (d ∷ text) c r e = cc
@@ -156,9 +157,11 @@ token_turn text list list' at n dot dot' kind r e p q =
           subst (λ x. AreTokens text x bad) (sym (ap (λ x. x ++ ts) p ∙ append_assoc list one ts)) (r.gives (token kind at n ∷ ts) bad (next t m));
       only = λ ts bad l.
           let (us, f, m) = r.only ts bad l in
-          let (vs, g, k) = left_by (S.Token kind n) at dot (drop at text) us bad r.utf8 e m in
-          (vs, f ∙ ap (λ x. list ++ x) g ∙ sym (ap (λ x. x ++ vs) p ∙ append_assoc list one vs),
-           subst (λ x. Lexes (at + n) x (drop (at + n) text) vs bad) (sym q) (subst (λ x. Lexes (at + n) (is_dot (take n (drop at text))) x vs bad) d k));
+          let (vs, g, k) = left_by (S.Token kind n) at dot (drop at text) us bad r.utf8 e m in (
+            vs,
+            f ∙ ap (λ x. list ++ x) g ∙ sym (ap (λ x. x ++ vs) p ∙ append_assoc list one vs),
+            subst (λ x. Lexes (at + n) x (drop (at + n) text) vs bad) (sym q) (subst (λ x. Lexes (at + n) (is_dot (take n (drop at text))) x vs bad) d k),
+          );
     }
 
 -- these are the tokens and the fault of a text, and nothing else is

@@ -7,3 +7,4 @@ pub mod Punctuation
 pub mod Comments
 pub mod Lexing
 pub mod Scan
+pub mod Slices

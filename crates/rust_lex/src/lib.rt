@@ -15,6 +15,6 @@ mod token;
 mod words;
 
 pub use identifiers::{ident_end, name_of};
-pub use lexer::lex;
+pub use lexer::{lex, token_text};
 pub use numbers::integer;
 pub use token::{Base, Form, Integer, Kind, Token, Tokens};

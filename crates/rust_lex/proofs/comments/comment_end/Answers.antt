@@ -46,9 +46,11 @@ loop-at-preserved c =
     let h = sym (c.begins_two.ensures ∙ ap (begins_two 47 42) c.after-left.ensures) ∙ c.if-begins_two.false in
     let k = sym (c.begins_two-in-loop-at.ensures ∙ ap (begins_two 42 47) c.after-left.ensures) ∙ c.if-not-begins_two.false in
     let z = c.if-open-eq0.false in
-    let some : 0 < c.loop-at.open = omega arith in
-    (omega arith, omega arith,
-     ap (after_comment (c.loop-at.open - 1)) (sym (drop-drop 2 at b)) ∙ on_less c.loop-at.open (drop 2 (drop at b)) some ∙ close_turn c.loop-at.open (drop at b) h k ∙ i.2)
+    let some : 0 < c.loop-at.open = omega arith in (
+      omega arith,
+      omega arith,
+      ap (after_comment (c.loop-at.open - 1)) (sym (drop-drop 2 at b)) ∙ on_less c.loop-at.open (drop 2 (drop at b)) some ∙ close_turn c.loop-at.open (drop at b) h k ∙ i.2,
+    )
 
 pub returns : goal.returns
 returns c =

@@ -3,6 +3,7 @@ use Rattle.rust_lex.specs.declared.step.Step.TheVariants as S
 use Rattle.rust_lex.specs.Lexing as spec
 use Rattle.rust_lex.specs.Scan.{step}
 use Rattle.rust_lex.proofs.Reading.{reads_boundary, gap_turn, token_turn, end_turn, fault_turn, gap_far, token_far, fault_far}
+use Rattle.rust_lex.proofs.Slicing.{all_texts}
 use Rattle.rust_lex.proofs.lexer.lex.Goals as goal
 
 pub skip-rest-requires : goal.skip-rest-requires
@@ -83,6 +84,16 @@ pub reading-preserved : goal.reading-preserved
 reading-preserved c =
     let e : step c.reading.after_dot (drop c.reading.at c.args.text.now) ≡ S.Token c.in-Token.kind c.in-Token.count = sym (c.in_ok-step.ensures ∙ ap (step c.reading.after_dot) c.skip-rest.ensures) ∙ c.in-Token.is in
     let p : c.push.new.self ≡ c.reading.list ++ spec.token c.in-Token.kind c.reading.at c.in-Token.count ∷ [] =
-        c.in_ok-push-in-Token.ensures.ok ∙ ap (λ s. c.reading.list ++ spec.token_at c.in-Token.kind s ∷ []) c.span-span.ensures in
+    c.in_ok-push-in-Token.ensures.ok ∙ ap (λ s. c.reading.list ++ spec.token_at c.in-Token.kind s ∷ []) c.span-span.ensures in
     let q = c.is_dot-after_dot.ensures ∙ ap spec.is_dot (c.before-in-Token.ensures ∙ ap (take c.in-Token.count) (c.as_bytes.ensures.value ∙ c.skip-rest.ensures)) in
     token_turn c.args.text.now c.reading.list c.push.new.self c.reading.at c.in-Token.count c.reading.after_dot c.is_dot-after_dot.result c.in-Token.kind c.reading.invariant e p q
+
+pub returns-in-End-clause-texts : goal.returns-in-End-clause-texts
+returns-in-End-clause-texts c =
+    let e : step c.reading.after_dot (drop c.reading.at c.args.text.now) ≡ S.End = sym (c.in_ok-step.ensures ∙ ap (step c.reading.after_dot) c.skip-rest.ensures) ∙ c.in-End.is in
+    all_texts c.args.text.now c.reading.list _ c.utf8.text (end_turn c.args.text.now c.reading.list c.reading.at c.reading.after_dot c.reading.invariant e).tokens
+
+pub returns-in-Fault-clause-texts : goal.returns-in-Fault-clause-texts
+returns-in-Fault-clause-texts c =
+    let e : step c.reading.after_dot (drop c.reading.at c.args.text.now) ≡ S.Fault c.in-Fault.count = sym (c.in_ok-step.ensures ∙ ap (step c.reading.after_dot) c.skip-rest.ensures) ∙ c.in-Fault.is in
+    all_texts c.args.text.now c.reading.list _ c.utf8.text (fault_turn c.args.text.now c.reading.list c.reading.at c.in-Fault.count c.reading.after_dot c.reading.invariant e).tokens
