@@ -21,7 +21,7 @@ fn status_of(rt: HostRuntime) -> io::Result<u8> {
         Err(error) if error.kind() == io::ErrorKind::InvalidData => Vec::new(rt.alloc()),
         words => words?,
     };
-    let mut files = RealFiles::new(rt.clone()?);
+    let mut files = RealFiles::new(rt.alloc(), rt.clone()?);
     let mut out = RealSink::new(io::writer(&rt));
     Ok(aeneas(rt.alloc(), &words, &mut files, &mut out))
 }
