@@ -26,8 +26,8 @@ abbrev pub joined : List Handed → List ℕ
 joined [] = []
 joined (h ∷ hs) = h.bytes ++ joined hs
 
--- what was handed out after the first of two records (PROMISES.md, "Safe and total")
-abbrev pub since : List Handed → List Handed → List Handed
+-- what was recorded after the first of two records (PROMISES.md, "Safe and total")
+abbrev pub since : {A : Type 0} → List A → List A → List A
 since before after = drop (length before) after
 
 -- bytes of this file alone, from this byte on, each call where the one before it ended
