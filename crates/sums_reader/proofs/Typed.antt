@@ -6,7 +6,7 @@ use Rattle.sums_ast.specs.Tree.{Expr, number, variable, binary, call, Exprs, no_
 use Rattle.sums_ast.specs.declared.function.Function.{Function}
 use Rattle.sums_ast.specs.declared.function.Program.{Program}
 use Rattle.source_meaning.specs.declared.token.Token.{Token}
-use Rattle.source_meaning.specs.Words.{digits_value}
+use Rattle.aen_base.specs.Decimals.{digits_value}
 use Rattle.source_meaning.specs.Grammar.{IsList, IsAtom, IsTerm, IsSum, IsBody, IsBlock, IsFunction, AreFunctions, Reads}
 use Rattle.source_meaning.specs.Typing.{IsTypedExpr, AreTypedExprs, IsTypedBody, IsTypedBlock, IsTypedFunction, AreTyped, IsTyped}
 
