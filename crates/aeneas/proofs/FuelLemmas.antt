@@ -1,5 +1,5 @@
 -- What at most 18 digits write.
-use Rattle.std.proofs.Common.{◌≡◌, ℕ, suc, ◌+◌, ◌-◌, ◌*◌, ◌^◌, ◌<◌, ◌≤◌, ◌∙◌, Bool, true, false, ◌&&◌, nat_lt, nat_le, List, [], ◌∷◌, length, refl, ap, sym, subst, arith}
+use Rattle.std.proofs.Common.{◌≡◌, ℕ, suc, ◌+◌, ◌-◌, ◌*◌, ◌^◌, ◌<◌, ◌≤◌, Bool, true, false, ◌&&◌, nat_lt, nat_le, List, [], ◌∷◌, length, refl, ap, subst, arith}
 use Rattle.std.specs.Prelude.{Option, Some, None, MatchOption, if◌then◌else◌}
 use Rattle.std.specs.List.{list_all}
 use Rattle.std.proofs.Math.Nat.{pow-le-pow_right, pow-suc}
@@ -43,3 +43,9 @@ taken w false l e h few = λ f. let d = f.digits in absurd cc
 -- a word of at most 18 bytes that is read is the number FUEL, and has 64 bits; one that isn't read is none
 pub fuel_read : (w : List ℕ) → length w ≤ 18 → MatchOption (decimal_number w) (IsFuel w → ⊥) (λ n. IsFuel w × (n ≡ fuel_of w) × (n < 2 ^ 64))
 fuel_read w few = taken w (is_number w) (nat_lt (digits_value 0 w) (2 ^ 128)) refl refl few
+
+pub small_fuel : (w : List ℕ) (n : ℕ) → length w ≤ 18 → decimal_number w ≡ Some n → n < 2 ^ 64
+small_fuel w n few e = (subst (λ (o : Option ℕ). MatchOption o (IsFuel w → ⊥) (λ n. IsFuel w × (n ≡ fuel_of w) × (n < 2 ^ 64))) e (fuel_read w few)).2
+
+pub no_fuel : (w : List ℕ) → length w ≤ 18 → decimal_number w ≡ None → IsFuel w → ⊥
+no_fuel w few e = subst (λ (o : Option ℕ). MatchOption o (IsFuel w → ⊥) (λ n. IsFuel w × (n ≡ fuel_of w) × (n < 2 ^ 64))) e (fuel_read w few)
