@@ -51,7 +51,7 @@ module _ (fs : List Function) where
   block_typed vars k (block s sts last) ts (o, inner, c, e, mo, mc, body, sp) = body_typed vars k sts last inner body
 
   function_typed : (f : Function) (l : List Token) → IsFunction fs f l → IsTypedFunction fs f
-  function_typed f l h = record { named = h.10.1; new = h.20; within = h.16; body = block_typed f.variables f.parameters f.body h.7 h.19 }
+  function_typed f l h = record { named = h.10.1; new = h.20; within = h.16; differ = h.18; body = block_typed f.variables f.parameters f.body h.7 h.19 }
 
 functions_typed : (fs gs : List Function) (ts : List Token) → AreFunctions fs gs ts → AreTyped fs gs
 functions_typed fs [] ts h = tt
