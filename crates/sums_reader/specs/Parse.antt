@@ -7,7 +7,7 @@ use Rattle.aen_base.specs.declared.int_ty.IntTy.TheVariants.{U32}
 use Rattle.aen_base.specs.declared.operators.BinOp.TheVariants.{Add}
 use Rattle.aen_base.specs.Arithmetic.{number as number_of}
 use Rattle.sums_ast.specs.Tree as tree
-use Rattle.sums_ast.specs.Tree.{Expr, Stmt, Block}
+use Rattle.sums_ast.specs.Tree.{Expr, Stmt}
 use Rattle.sums_ast.specs.declared.function.Function.{Function}
 use Rattle.sums_ast.specs.declared.function.Program.{Program}
 use Rattle.source_meaning.specs.contracts.token.Mark.{the_type}
