@@ -1,9 +1,9 @@
 //! What is printed is read back: each construct of the printed language as it is laid out.
-use crate::{def_named, print_atom, read_args, read_defs};
 use lean_printer::print;
+use lean_reader::read_defs;
 use std::test::Fail;
 
-const TEXT: &str = "import AenPrelude
+pub const TEXT: &str = "import AenPrelude
 open AenPrelude
 
 structure P (A : Type) («ret» : Type) where
@@ -118,23 +118,5 @@ fn each_construct_is_printed_as_it_was_read(rt: HostRuntime) -> Result<(), Fail>
     let defs = read_defs(rt.alloc(), TEXT).ok().ok_or("it is a text")?;
     let printed = print(rt.alloc(), &defs)?;
     assert_eq!(rt; printed.as_str(), TEXT);
-    Ok(())
-}
-
-#[test]
-fn arguments_are_printed_as_they_were_written(rt: HostRuntime) -> Result<(), Fail> {
-    let defs = read_defs(rt.alloc(), TEXT).ok().ok_or("it is a text")?;
-    let def = def_named(&defs, "fn.«é»").ok_or("it is a definition")?;
-    let mut words = Vec::new(rt.alloc());
-    words.push(String::from_str(rt.alloc(), "(L.cons 255#U8 L.nil)")?)?;
-    words.push(String::from_str(rt.alloc(), "true")?)?;
-    words.push(String::from_str(rt.alloc(), "(1#U8, -2#I128)")?)?;
-    words.push(String::from_str(rt.alloc(), "(Exit.brk 3#U8)")?)?;
-    let args = read_args(rt.alloc(), &defs, def, &[], words.as_slice())
-        .ok()
-        .ok_or("they are arguments")?;
-    let third = args.as_slice().get(2).ok_or("there is a third")?;
-    let atom = print_atom(rt.alloc(), &defs, third)?;
-    assert_eq!(rt; atom.as_str(), "(1#U8, -2#I128)");
     Ok(())
 }

@@ -1,8 +1,10 @@
+//! Where tokens leave the grammar, and what occurs in them.
+
 ghost use Rattle.std.specs.Prelude.{◌<◌, ◌^◌, length};
 
-use crate::{Occurrence, Role, grammar_fault, occurrences};
 use aen_base::NoMem;
 use std::alloc::Global;
+use text_grammar::{Occurrence, Role, grammar_fault, occurrences};
 use text_tokens::lex;
 
 /// The fault of a text that has only tokens.
