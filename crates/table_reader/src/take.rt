@@ -1,6 +1,7 @@
 //! What a token of a grammar takes.
 
 /// How a token of a grammar takes a lexeme.
+#[derive(Drop)]
 pub enum Take<L> {
     /// Not at all.
     No,
