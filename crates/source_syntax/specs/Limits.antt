@@ -108,14 +108,32 @@ module _ {S : Type 0} (after : S → Class → S) (count : S → ℕ) (limit : �
   passes s [] = false
   passes s (l ∷ ls) = nat_lt limit (count (after s l.class)) || passes (after s l.class) ls
 
--- more than 100 brackets are open
+abbrev pub bracketing : ℕ → Class → ℕ
+bracketing n c = bracketed n (effect c)
+
+abbrev pub levelling : Levels → Class → Levels
+levelling s c = levelled s (effect c)
+
+abbrev pub itself : ℕ → ℕ
+itself n = n
+
+-- more than 100 brackets are open at some lexeme
 abbrev pub PassesNesting : List Lexeme → Type 0
-PassesNesting ls = Passes (λ n c. bracketed n (effect c)) (λ n. n) 100 0 ls
+PassesNesting ls = Passes bracketing itself 100 0 ls
 
--- the depth is more than 250
+abbrev pub passes_nesting : List Lexeme → Bool
+passes_nesting ls = passes bracketing itself 100 0 ls
+
+-- the depth is more than 250 at some lexeme
 abbrev pub PassesDepth : List Lexeme → Type 0
-PassesDepth ls = Passes (λ s c. levelled s (effect c)) depth 250 outside ls
+PassesDepth ls = Passes levelling depth 250 outside ls
 
--- more than 250 words `else` stand since the last `fn`
+abbrev pub passes_depth : List Lexeme → Bool
+passes_depth ls = passes levelling depth 250 outside ls
+
+-- more than 250 words `else` stand since the last `fn` at some lexeme
 abbrev pub PassesElse : List Lexeme → Type 0
-PassesElse ls = Passes elses (λ n. n) 250 0 ls
+PassesElse ls = Passes elses itself 250 0 ls
+
+abbrev pub passes_else : List Lexeme → Bool
+passes_else ls = passes elses itself 250 0 ls

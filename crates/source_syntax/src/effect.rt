@@ -20,7 +20,7 @@ pub enum Effect {
 }
 
 /// The effect of lexemes of a class.
-pub(crate) fn effect(class: Class) -> Effect
+pub(crate) fn effect_of(class: Class) -> Effect
     ensures { result ≡ spec.effect class }
 {
     match class {
@@ -37,7 +37,11 @@ pub(crate) fn effect(class: Class) -> Effect
         | Class::Return
         | Class::Break
         | Class::Dot
-        | Class::Plus
+        | Class::Not
+        | Class::Equals
+        | Class::AndAnd
+        | Class::BarBar => Effect::Counts,
+        Class::Plus
         | Class::Minus
         | Class::Star
         | Class::Slash
@@ -46,18 +50,14 @@ pub(crate) fn effect(class: Class) -> Effect
         | Class::Shr
         | Class::And
         | Class::Caret
-        | Class::Bar
-        | Class::AndAnd
-        | Class::BarBar
-        | Class::Not
-        | Class::EqualsEquals
+        | Class::Bar => Effect::Counts,
+        Class::EqualsEquals
         | Class::NotEquals
         | Class::Less
         | Class::Greater
         | Class::LessEquals
-        | Class::GreaterEquals
-        | Class::Equals
-        | Class::PlusEquals
+        | Class::GreaterEquals => Effect::Counts,
+        Class::PlusEquals
         | Class::MinusEquals
         | Class::StarEquals
         | Class::SlashEquals

@@ -21,7 +21,7 @@ pub(crate) struct Levels {
 impl Levels {
     /// The text outside all brackets.
     pub(crate) fn new(alloc: Global) -> Levels
-        ensures { seen result ≡ spec.outside }
+        ensures counts { seen result ≡ spec.outside }
         ensures sums { IsLevels result }
     {
         Levels {
@@ -33,9 +33,9 @@ impl Levels {
 
     /// Sees a lexeme with this effect. The only error is want of memory.
     pub(crate) fn see(&mut self, effect: Effect) -> Result<(), NoMem>
-        requires { IsLevels self.old }
+        requires sums { IsLevels self.old }
         requires bound { self.old.depth ≤ 250 }
-        ensures { OnOk result (seen self.new ≡ spec.levelled (seen self.old) effect) }
+        ensures counts { OnOk result (seen self.new ≡ spec.levelled (seen self.old) effect) }
         ensures sums { OnOk result (IsLevels self.new) }
     {
         match effect {

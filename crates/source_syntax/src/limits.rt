@@ -4,7 +4,7 @@ ghost use Rattle.std.specs.Prelude.{◌≡◌, ◌≤◌, ◌↔◌, IsTrue, IfO
 ghost use Rattle.source_syntax.specs.Limits as spec;
 ghost use Rattle.source_syntax.specs.Levels.{seen};
 
-use crate::effect::{Effect, effect};
+use crate::effect::{Effect, effect_of};
 use crate::levels::Levels;
 use aen_base::NoMem;
 use source_grammar::{Class, Lexeme};
@@ -14,24 +14,30 @@ use std::alloc::Global;
 pub(crate) fn passes_nesting(lexemes: &[Lexeme]) -> bool
     ensures { IsTrue result ↔ spec.PassesNesting lexemes.now }
 {
-    let mut open = 0u64;
+    nests_deeply(lexemes)
+}
+
+fn nests_deeply(lexemes: &[Lexeme]) -> bool
+    ensures { result ≡ spec.passes_nesting lexemes.now }
+{
+    let mut brackets = 0u64;
     for lexeme in lexemes {
-        open = bracketed(open, effect(lexeme.class));
-        if open > 100 {
+        brackets = bracketed(brackets, effect_of(lexeme.class));
+        if brackets > 100 {
             return true;
         }
     }
     false
 }
 
-fn bracketed(open: u64, effect: Effect) -> u64
-    requires { open ≤ 100 }
-    ensures { result ≡ spec.bracketed open effect }
+fn bracketed(brackets: u64, effect: Effect) -> u64
+    requires { brackets ≤ 100 }
+    ensures { result ≡ spec.bracketed brackets effect }
 {
     match effect {
-        Effect::Opens => open + 1,
-        Effect::Closes => open.saturating_sub(1),
-        _ => open,
+        Effect::Opens => brackets + 1,
+        Effect::Closes => brackets.saturating_sub(1),
+        _ => brackets,
     }
 }
 
@@ -39,9 +45,16 @@ fn bracketed(open: u64, effect: Effect) -> u64
 pub(crate) fn passes_depth(alloc: Global, lexemes: &[Lexeme]) -> Result<bool, NoMem>
     ensures { IfOk result (λ b. IsTrue b ↔ spec.PassesDepth lexemes.now) }
 {
+    let deep = is_deep(alloc, lexemes)?;
+    Ok(deep)
+}
+
+fn is_deep(alloc: Global, lexemes: &[Lexeme]) -> Result<bool, NoMem>
+    ensures { IfOk result (λ b. b ≡ spec.passes_depth lexemes.now) }
+{
     let mut levels = Levels::new(alloc);
     for lexeme in lexemes {
-        levels.see(effect(lexeme.class))?;
+        levels.see(effect_of(lexeme.class))?;
         if levels.depth > 250 {
             return Ok(true);
         }
@@ -52,6 +65,12 @@ pub(crate) fn passes_depth(alloc: Global, lexemes: &[Lexeme]) -> Result<bool, No
 /// Whether more than 250 words `else` stand since the last `fn` at some lexeme.
 pub(crate) fn passes_else(lexemes: &[Lexeme]) -> bool
     ensures { IsTrue result ↔ spec.PassesElse lexemes.now }
+{
+    has_many_elses(lexemes)
+}
+
+fn has_many_elses(lexemes: &[Lexeme]) -> bool
+    ensures { result ≡ spec.passes_else lexemes.now }
 {
     let mut elses = 0u64;
     for lexeme in lexemes {
