@@ -36,7 +36,8 @@ macro_rules! symbol {
     };
 }
 
-pub(crate) use {productions, symbol};
+pub(crate) use productions;
+pub(crate) use symbol;
 
 /// The productions of a part.
 pub(crate) fn productions_of(part: Part) -> Productions

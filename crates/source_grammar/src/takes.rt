@@ -55,7 +55,11 @@ fn end_of_types(lexeme: &Lexeme) -> Take<Lexeme>
 fn split(span: Span, left: Class) -> Take<Lexeme>
     ensures { result ≡ spec.split span left }
 {
-    let middle = if span.lo < span.hi { span.lo + 1 } else { span.lo };
+    let middle = if span.lo < span.hi {
+        span.lo + 1
+    } else {
+        span.lo
+    };
     Take::Front {
         taken: mark(Class::Greater, span.lo, middle),
         left: mark(left, middle, span.hi),

@@ -1,2 +1,2 @@
 mod Passing
-mod Depths
+mod Faulting

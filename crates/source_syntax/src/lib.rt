@@ -5,5 +5,8 @@
 mod effect;
 mod levels;
 mod limits;
+mod refusal;
+mod syntax;
 
 pub use effect::Effect;
+pub use refusal::Refusal;
