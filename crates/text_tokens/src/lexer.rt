@@ -304,3 +304,16 @@ pub fn lex(alloc: Global, text: &str) -> Result<Lexemes, NoMem>
 {
     Ok(cut(alloc, text)?)
 }
+
+#[cfg(test)]
+mod tests {
+    use super::*;
+
+    #[test]
+    fn cuts_a_head(rt: HostRuntime) -> Result<(), NoMem> {
+        let lexemes = lex(rt.alloc(), "def fn.«é» (n : Nat)")?;
+        assert!(rt; lexemes.fault.is_none());
+        assert_eq!(rt; lexemes.list.len(), 9);
+        Ok(())
+    }
+}
