@@ -6,8 +6,8 @@ use aen_base::{IntTy, Name, Span};
 pub enum Content {
     /// Nothing: a word that is no integer type, a mark, a string.
     Nothing,
-    /// The name of an identifier or of a lifetime after its `'`, or the digits after a dot as they are
-    /// spelled.
+    /// The name of an identifier or of a lifetime, this one with its `'`, or the digits after a dot as
+    /// they are spelled.
     Name(Name),
     /// An integer type.
     Int(IntTy),

@@ -1,3 +1,4 @@
 pub mod Limits
 pub mod Levels
 pub mod Refusals
+pub mod Spelled

@@ -4,9 +4,14 @@
 
 mod effect;
 mod levels;
+mod lexemes;
 mod limits;
+mod reading;
 mod refusal;
 mod syntax;
 
 pub use effect::Effect;
+pub use lexemes::lexemes_of;
+pub use reading::syntax_refusal;
 pub use refusal::Refusal;
+pub use syntax::refusal_of;

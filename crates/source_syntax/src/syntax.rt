@@ -12,7 +12,7 @@ use table_reader::grammar_fault;
 
 /// What lexemes up to a lexical fault come to, in a text of so many bytes. The only error is want of
 /// memory.
-pub(crate) fn refusal_of(
+pub fn refusal_of(
     alloc: Global,
     lexemes: &[Lexeme],
     bad: Option<Span>,
