@@ -66,11 +66,13 @@ dot_end class end = None
 abbrev pub spelling : List ℕ → Span → List ℕ
 spelling text span = slice_range text span.lo span.hi
 
-mutual
-  -- the lexemes of tokens, where a dot may end before them
-  abbrev pub lexemes : List ℕ → Option ℕ → List Token → List Lexeme
-  lexemes text dot [] = []
-  lexemes text dot (t ∷ ts) = followed text (lexeme_of t.kind (ends_at dot t.span.lo) t.span (spelling text t.span)) ts
+-- the lexeme of a token, where a dot may end before it
+abbrev pub lexeme : List ℕ → Option ℕ → Token → Lexeme
+lexeme text dot t = lexeme_of t.kind (ends_at dot t.span.lo) t.span (spelling text t.span)
 
-  abbrev pub followed : List ℕ → Lexeme → List Token → List Lexeme
-  followed text l ts = l ∷ lexemes text (dot_end l.class l.span.hi) ts
+abbrev pub dot_after : Lexeme → Option ℕ
+dot_after l = dot_end l.class l.span.hi
+
+abbrev pub lexemes : List ℕ → Option ℕ → List Token → List Lexeme
+lexemes text dot [] = []
+lexemes text dot (t ∷ ts) = lexeme text dot t ∷ lexemes text (dot_after (lexeme text dot t)) ts

@@ -1,6 +1,6 @@
 //! The lexemes that the tokens of a source are.
 
-ghost use Rattle.std.specs.Prelude.{◌≡◌, ◌≤◌, None, IfOk, IsCharBoundary};
+ghost use Rattle.std.specs.Prelude.{◌≡◌, ◌≤◌, false, None, IfOk, IsCharBoundary};
 ghost use Rattle.source_syntax.specs.Spelled as spec;
 ghost use Rattle.rust_lex.specs.Lexing.{AreInText};
 ghost use Rattle.rust_lex.specs.Words as words;
@@ -43,7 +43,7 @@ fn ends_at(dot: Option<u32>, at: u32) -> bool
 
 /// Where a lexeme ends that is a dot.
 fn dot_end(lexeme: &Lexeme) -> Option<u32>
-    ensures { result ≡ spec.dot_end lexeme.now.class lexeme.now.span.hi }
+    ensures { result ≡ spec.dot_after lexeme.now }
 {
     match lexeme.class {
         Class::Dot => Some(lexeme.span.hi),
