@@ -18,3 +18,4 @@ pub use identifiers::{ident_end, name_of};
 pub use lexer::{lex, token_text};
 pub use numbers::integer;
 pub use token::{Base, Form, Integer, Kind, Token, Tokens};
+pub use words::int_named;

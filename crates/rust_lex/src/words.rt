@@ -186,7 +186,7 @@ pub(crate) fn suffix_at(bytes: &[u8]) -> Option<IntTy>
 }
 
 /// The integer type of this name.
-pub(crate) fn int_named(w: &[u8]) -> Option<IntTy>
+pub fn int_named(w: &[u8]) -> Option<IntTy>
     ensures { result ≡ spec.int_named w.now }
 {
     if w == b"u8".as_slice() {

@@ -10,8 +10,9 @@ use Rattle.source_syntax.specs.Refusals.{IsProgram, IsViable, IsFault, IsSyntaxF
 
 got : (ls : List Lexeme) (k : ℕ) (l : Lexeme) → k < length ls → ((d : Lexeme) → l ≡ get_or ls k d) → slice_get ls k ≡ Some l
 got ls k l h e = elim (slice_get_cases ls k).1 as (λ s. slice_get ls k ≡ Some l) [
-  inl p ↦ subst (λ (x : Lexeme). slice_get ls k ≡ Some x) (sym (e p.0 ∙ p.3)) p.2
-  | inr p ↦ absurd (omega arith) ]
+  | inl p ↦ subst (λ (x : Lexeme). slice_get ls k ≡ Some x) (sym (e p.0 ∙ p.3)) p.2
+  | inr p ↦ absurd (omega arith)
+]
 
 -- all lexemes are viable where the fault is past them
 viable : (ls : List Lexeme) (k : ℕ) → IsFault ls k → length ls ≤ k → IsViable ls

@@ -1,7 +1,7 @@
 -- Whether a count passes its limit is decided by going along the lexemes.
 use Rattle.std.specs.Prelude.{◌≡◌, refl, ℕ, zero, suc, ◌<◌, ◌≤◌, ◌↔◌, nat_lt, Bool, true, false, ◌||◌, IsTrue, List, [], ◌∷◌, take}
 use Rattle.std.proofs.Common.{arith}
-use Rattle.std.proofs.lemmas.Bool.{lt-ltb, ltb-true, ltb-false}
+use Rattle.std.proofs.lemmas.Bool.{ltb-true, ltb-false}
 use Rattle.source_grammar.specs.declared.class.Class.{Class}
 use Rattle.source_grammar.specs.declared.lexeme.Lexeme.{Lexeme}
 use Rattle.source_syntax.specs.Limits.{counted, Passes, passes}

@@ -1,5 +1,5 @@
 -- The counts of open levels as the code keeps them.
-use Rattle.std.specs.Prelude.{◌≡◌, ℕ, reverse}
+use Rattle.std.specs.Prelude.{◌≡◌, reverse}
 use Rattle.source_syntax.specs.Limits as spec
 use Rattle.source_syntax.specs.declared.levels.Levels.{Levels}
 

@@ -1,6 +1,5 @@
 -- The lexemes that the tokens of a source are (LANGUAGE.md, "Tokens").
 use Rattle.std.specs.Prelude.{ℕ, Bool, true, false, ◌==◌, if◌then◌else◌, List, [], ◌∷◌, Option, Some, None, bytes_eq, codes}
-use Rattle.std.specs.List.{slice_range}
 use Rattle.aen_base.specs.declared.int_ty.IntTy.{IntTy}
 use Rattle.aen_base.specs.declared.span.Span.{Span}
 use Rattle.rust_lex.specs.declared.token.Integer.{Integer}
@@ -9,6 +8,7 @@ use Rattle.rust_lex.specs.declared.token.Kind.TheVariants as K
 use Rattle.rust_lex.specs.declared.token.Token.{Token}
 use Rattle.rust_lex.specs.Identifiers.{name_of}
 use Rattle.rust_lex.specs.Numbers.{integer_of}
+use Rattle.rust_lex.specs.Slices.{text_of}
 use Rattle.rust_lex.specs.Words.{int_named}
 use Rattle.source_grammar.specs.declared.class.Class.{Class}
 use Rattle.source_grammar.specs.declared.class.Class.TheVariants as C
@@ -63,12 +63,9 @@ abbrev pub dot_end : Class → ℕ → Option ℕ
 dot_end C.Dot end = Some end
 dot_end class end = None
 
-abbrev pub spelling : List ℕ → Span → List ℕ
-spelling text span = slice_range text span.lo span.hi
-
 -- the lexeme of a token, where a dot may end before it
 abbrev pub lexeme : List ℕ → Option ℕ → Token → Lexeme
-lexeme text dot t = lexeme_of t.kind (ends_at dot t.span.lo) t.span (spelling text t.span)
+lexeme text dot t = lexeme_of t.kind (ends_at dot t.span.lo) t.span (text_of text t)
 
 abbrev pub dot_after : Lexeme → Option ℕ
 dot_after l = dot_end l.class l.span.hi

@@ -1,30 +1,26 @@
 //! The lexemes that the tokens of a source are.
 
-ghost use Rattle.std.specs.Prelude.{◌≡◌, ◌≤◌, false, None, IfOk, IsCharBoundary};
+ghost use Rattle.std.specs.Prelude.{◌≡◌, false, None, IfOk, All};
 ghost use Rattle.source_syntax.specs.Spelled as spec;
-ghost use Rattle.rust_lex.specs.Lexing.{AreInText};
+ghost use Rattle.rust_lex.specs.Slices.{IsTokenOf};
 ghost use Rattle.rust_lex.specs.Words as words;
 ghost use Rattle.rust_lex.specs.declared.token.Kind.TheVariants as K;
 
 use aen_base::{List, Name, NoMem, Span};
-use rust_lex::{Kind, Token, int_named, integer, name_of};
+use rust_lex::{Kind, Token, int_named, integer, name_of, token_text};
 use source_grammar::{Class, Content, Lexeme, class_marked, class_named};
 use std::alloc::Global;
 
 /// The lexemes of the tokens of a text. The only error is want of memory.
-pub fn lexemes_of(
-    alloc: Global,
-    text: &str,
-    tokens: &[Token],
-) -> Result<List<Lexeme>, NoMem>
-    requires { AreInText text.now tokens.now }
+pub fn lexemes_of(alloc: Global, text: &str, tokens: &[Token]) -> Result<List<Lexeme>, NoMem>
+    requires { All (IsTokenOf text.now) tokens.now }
     ensures { IfOk result (λ ls. ls ≡ spec.lexemes text.now None tokens.now) }
 {
     let mut lexemes = List::new(alloc);
     let mut dot = None;
     for token in tokens {
         let after_dot = ends_at(dot, token.span.lo);
-        let lexeme = lexeme_of(alloc, after_dot, *token, spelling(text, token.span))?;
+        let lexeme = lexeme_of(alloc, after_dot, *token, token_text(text, *token))?;
         dot = dot_end(&lexeme);
         lexemes.push(lexeme)?;
     }
@@ -51,23 +47,9 @@ fn dot_end(lexeme: &Lexeme) -> Option<u32>
     }
 }
 
-fn spelling(text: &str, span: Span) -> &str
-    requires begins { IsCharBoundary text.now span.lo }
-    requires ends { IsCharBoundary text.now span.hi }
-    requires order { span.lo ≤ span.hi }
-    ensures { result.now ≡ spec.spelling text.now span }
-{
-    &text[span.lo as usize..span.hi as usize]
-}
-
 /// The lexeme of a token with this spelling, which may stand directly after a dot. The only error is
 /// want of memory.
-fn lexeme_of(
-    alloc: Global,
-    after_dot: bool,
-    token: Token,
-    spelling: &str,
-) -> Result<Lexeme, NoMem>
+fn lexeme_of(alloc: Global, after_dot: bool, token: Token, spelling: &str) -> Result<Lexeme, NoMem>
     ensures { IfOk result (λ l. l ≡ spec.lexeme_of token.kind after_dot token.span spelling.now) }
 {
     let span = token.span;
@@ -139,12 +121,7 @@ fn lifetime(alloc: Global, span: Span, spelling: &str) -> Result<Lexeme, NoMem>
     })
 }
 
-fn number(
-    alloc: Global,
-    after_dot: bool,
-    span: Span,
-    spelling: &str,
-) -> Result<Lexeme, NoMem>
+fn number(alloc: Global, after_dot: bool, span: Span, spelling: &str) -> Result<Lexeme, NoMem>
     ensures { IfOk result (λ l. l ≡ spec.lexeme_of K.Integer after_dot span spelling.now) }
 {
     if after_dot {

@@ -1,5 +1,5 @@
-ghost use Rattle.std.specs.Prelude.{◌^◌, ◌<◌, None, length, IfOk};
-ghost use Rattle.rust_lex.specs.Lexing.{AreInText};
+ghost use Rattle.std.specs.Prelude.{◌^◌, ◌<◌, None, length, IfOk, All};
+ghost use Rattle.rust_lex.specs.Slices.{IsTokenOf};
 ghost use Rattle.source_syntax.specs.Refusals as spec;
 ghost use Rattle.source_syntax.specs.Spelled.{lexemes};
 
@@ -13,13 +13,9 @@ use std::alloc::Global;
 /// Why the tokens of a text are refused; None exactly where they are a program that keeps the limits on
 /// nesting, depth and `else`, without excluded words and without a lexical fault. The only error is want
 /// of memory.
-pub fn syntax_refusal(
-    alloc: Global,
-    text: &str,
-    tokens: &Tokens,
-) -> Result<Option<Refusal>, NoMem>
+pub fn syntax_refusal(alloc: Global, text: &str, tokens: &Tokens) -> Result<Option<Refusal>, NoMem>
     requires size { length text.now < 2 ^ 32 }
-    requires slices { AreInText text.now tokens.now.list }
+    requires slices { All (IsTokenOf text.now) tokens.now.list }
     ensures { IfOk result (λ o. spec.IsAnswer (lexemes text.now None tokens.now.list) tokens.now.bad (length text.now) o) }
 {
     let lexemes = lexemes_of(alloc, text, tokens.list.as_slice())?;

@@ -1,5 +1,5 @@
 -- A count that goes along the lexemes tells whether it passes at some lexeme.
-use Rattle.std.proofs.Common.{◌≡◌, subst, sym, IsTrue, ◌↔◌, arith}
+use Rattle.std.proofs.Common.{subst, sym, IsTrue, ◌↔◌, arith}
 use Rattle.source_syntax.specs.Limits as spec
 use Rattle.source_syntax.proofs.Passing.{decided}
 use Rattle.source_syntax.proofs.limits.passes_else.Goals as goal
