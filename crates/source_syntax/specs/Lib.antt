@@ -1,4 +1,4 @@
 pub mod Limits
 pub mod Levels
-pub mod Refusals
 pub mod Spelled
+pub mod Refusals

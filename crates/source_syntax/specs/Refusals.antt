@@ -1,5 +1,5 @@
 -- What the lexemes of a source come to: a program, or why they are none (LANGUAGE.md, "Grammar", "Limits").
-use Rattle.std.specs.Prelude.{◌≡◌, ℕ, if◌then◌else◌, List, [], ◌∷◌, Option, Some, None, MatchOption, slice_get}
+use Rattle.std.specs.Prelude.{◌≡◌, ℕ, if◌then◌else◌, List, [], ◌∷◌, Option, Some, None, MatchOption, length, slice_get}
 use denote.Enum.Bare.{sameb}
 use Rattle.aen_base.specs.declared.limits.Which.{Which}
 use Rattle.aen_base.specs.declared.limits.Which.TheVariants as W
@@ -7,8 +7,9 @@ use Rattle.aen_base.specs.declared.span.Span.{Span}
 use Rattle.table_reader.specs.declared.symbol.Symbol.{Symbol}
 use Rattle.table_reader.specs.declared.symbol.Symbol.TheVariants as S
 use Rattle.table_reader.specs.Derivations as table
-use Rattle.source_grammar.specs.contracts.class.Class.{the_type}
-use Rattle.source_grammar.specs.declared.class.Class.TheVariants as C
+use Rattle.rust_lex.specs.contracts.token.Kind.{the_type}
+use Rattle.rust_lex.specs.declared.token.Kind.TheVariants as K
+use Rattle.rust_lex.specs.declared.token.Token.{Token}
 use Rattle.source_grammar.specs.declared.lexeme.Lexeme.{Lexeme}
 use Rattle.source_grammar.specs.declared.part.Part.{Part}
 use Rattle.source_grammar.specs.declared.part.Part.TheVariants as N
@@ -17,6 +18,7 @@ use Rattle.source_grammar.specs.Lexemes.{takes}
 use Rattle.source_grammar.specs.Productions.{productions}
 use Rattle.source_syntax.specs.declared.refusal.Refusal.{Refusal}
 use Rattle.source_syntax.specs.declared.refusal.Refusal.TheVariants as R
+use Rattle.source_syntax.specs.Spelled.{lexemes}
 use Rattle.source_syntax.specs.Limits.{PassesNesting, PassesDepth, PassesElse}
 
 abbrev pub program : List (Symbol Terminal Part)
@@ -35,9 +37,9 @@ abbrev pub IsFault : List Lexeme → ℕ → Type 0
 IsFault ls k = table.IsFault takes productions program ls k
 
 -- the place of the first excluded word
-abbrev pub first_excluded : List Lexeme → Option Span
+abbrev pub first_excluded : List Token → Option Span
 first_excluded [] = None
-first_excluded (l ∷ ls) = if sameb the_type l.class C.Excluded then Some l.span else first_excluded ls
+first_excluded (t ∷ ts) = if sameb the_type t.kind K.Excluded then Some t.span else first_excluded ts
 
 -- the first limit that is passed, in this order, and its count
 abbrev pub IsPassed : List Lexeme → Which → ℕ → Type 0
@@ -56,15 +58,17 @@ pub data IsSyntaxFault (ls : List Lexeme) (bad : Option Span) (end : ℕ) : Span
   lexical : {span : Span} → IsViable ls → bad ≡ Some span → IsSyntaxFault ls bad end span
   unfinished : IsViable ls → (IsProgram ls → ⊥) → bad ≡ None → IsSyntaxFault ls bad end (record { lo = end; hi = end })
 
--- each refusal has its cause: an excluded word comes before limits, and limits before the grammar
-abbrev pub IsCause : List Lexeme → Option Span → ℕ → Refusal → Type 0
-IsCause ls bad end (R.Unsupported span) = first_excluded ls ≡ Some span
-IsCause ls bad end (R.Limit which n) = (first_excluded ls ≡ None) × IsPassed ls which n
-IsCause ls bad end (R.Syntax span) = (first_excluded ls ≡ None) × KeepsLimits ls × IsSyntaxFault ls bad end span
+-- each refusal of tokens, which are these lexemes, has its cause: an excluded word comes before limits, and limits
+-- before the grammar
+abbrev pub IsCause : List Token → List Lexeme → Option Span → ℕ → Refusal → Type 0
+IsCause ts ls bad end (R.Unsupported span) = first_excluded ts ≡ Some span
+IsCause ts ls bad end (R.Limit which n) = (first_excluded ts ≡ None) × IsPassed ls which n
+IsCause ts ls bad end (R.Syntax span) = (first_excluded ts ≡ None) × KeepsLimits ls × IsSyntaxFault ls bad end span
 
 -- a program within the limits, without excluded words and lexical faults
-abbrev pub IsKept : List Lexeme → Option Span → Type 0
-IsKept ls bad = (first_excluded ls ≡ None) × KeepsLimits ls × (bad ≡ None) × IsProgram ls
+abbrev pub IsKept : List Token → List Lexeme → Option Span → Type 0
+IsKept ts ls bad = (first_excluded ts ≡ None) × KeepsLimits ls × (bad ≡ None) × IsProgram ls
 
-abbrev pub IsAnswer : List Lexeme → Option Span → ℕ → Option Refusal → Type 0
-IsAnswer ls bad end o = MatchOption o (IsKept ls bad) (IsCause ls bad end)
+-- what the tokens of a text up to a lexical fault come to
+abbrev pub IsAnswer : List ℕ → List Token → Option Span → Option Refusal → Type 0
+IsAnswer text ts bad o = MatchOption o (IsKept ts (lexemes text None ts) bad) (IsCause ts (lexemes text None ts) bad (length text))

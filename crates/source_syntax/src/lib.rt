@@ -14,4 +14,4 @@ pub use effect::Effect;
 pub use lexemes::lexemes_of;
 pub use reading::syntax_refusal;
 pub use refusal::Refusal;
-pub use syntax::refusal_of;
+pub use syntax::{fault_at, first_excluded, passed_limit, syntax_fault};

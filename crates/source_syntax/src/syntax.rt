@@ -4,53 +4,44 @@ ghost use Rattle.std.specs.Prelude.{◌≡◌, None, IfOk, MatchOption};
 ghost use Rattle.source_syntax.specs.Refusals as spec;
 
 use crate::limits::{passes_depth, passes_else, passes_nesting};
-use crate::refusal::Refusal;
 use aen_base::{NoMem, Span, Which};
-use source_grammar::{Class, Lexeme, Part, SourceGrammar};
+use rust_lex::{Kind, Token};
+use source_grammar::{Lexeme, Part, SourceGrammar};
 use std::alloc::Global;
 use table_reader::grammar_fault;
 
-/// What lexemes up to a lexical fault come to, in a text of so many bytes. The only error is want of
-/// memory.
-pub fn refusal_of(
-    alloc: Global,
-    lexemes: &[Lexeme],
-    bad: Option<Span>,
-    end: u32,
-) -> Result<Option<Refusal>, NoMem>
-    ensures { IfOk result (λ o. spec.IsAnswer lexemes.now bad end o) }
+/// The first excluded word.
+pub fn first_excluded(tokens: &[Token]) -> Option<Span>
+    ensures { result ≡ spec.first_excluded tokens.now }
 {
-    if let Some(span) = first_excluded(lexemes) {
-        return Ok(Some(Refusal::Unsupported(span)));
-    }
-    if passes_nesting(lexemes) {
-        return Ok(Some(Refusal::Limit(Which::Nesting, 101)));
-    }
-    if passes_depth(alloc, lexemes)? {
-        return Ok(Some(Refusal::Limit(Which::Depth, 251)));
-    }
-    if passes_else(lexemes) {
-        return Ok(Some(Refusal::Limit(Which::Else, 251)));
-    }
-    match syntax_fault(alloc, lexemes, bad, end)? {
-        Some(span) => Ok(Some(Refusal::Syntax(span))),
-        None => Ok(None),
-    }
-}
-
-fn first_excluded(lexemes: &[Lexeme]) -> Option<Span>
-    ensures { result ≡ spec.first_excluded lexemes.now }
-{
-    for lexeme in lexemes {
-        if lexeme.class == Class::Excluded {
-            return Some(lexeme.span);
+    for token in tokens {
+        if token.kind == Kind::Excluded {
+            return Some(token.span);
         }
     }
     None
 }
 
-/// Where lexemes up to a lexical fault are no program. The only error is want of memory.
-fn syntax_fault(
+/// The first of the limits on nesting, depth and `else`, in this order, that lexemes pass, and the
+/// limit and one. The only error is want of memory.
+pub fn passed_limit(alloc: Global, lexemes: &[Lexeme]) -> Result<Option<(Which, u64)>, NoMem>
+    ensures { IfOk result (λ o. MatchOption o (spec.KeepsLimits lexemes.now) (λ (which, n). spec.IsPassed lexemes.now which n)) }
+{
+    if passes_nesting(lexemes) {
+        return Ok(Some((Which::Nesting, 101)));
+    }
+    if passes_depth(alloc, lexemes)? {
+        return Ok(Some((Which::Depth, 251)));
+    }
+    if passes_else(lexemes) {
+        return Ok(Some((Which::Else, 251)));
+    }
+    Ok(None)
+}
+
+/// Where lexemes up to a lexical fault, in a text of so many bytes, are no program. The only error is want
+/// of memory.
+pub fn syntax_fault(
     alloc: Global,
     lexemes: &[Lexeme],
     bad: Option<Span>,
@@ -64,7 +55,9 @@ fn syntax_fault(
     }
 }
 
-fn fault_at(lexemes: &[Lexeme], place: usize, bad: Option<Span>, end: u32) -> Span
+/// The place in the text of a fault of lexemes: a lexeme, the lexical fault after all of them, or the
+/// text's end.
+pub fn fault_at(lexemes: &[Lexeme], place: usize, bad: Option<Span>, end: u32) -> Span
     requires { spec.IsFault lexemes.now place }
     ensures { spec.IsSyntaxFault lexemes.now bad end result }
 {
