@@ -18,7 +18,7 @@ use Rattle.rust_lex.specs.Words.{is_word, is_excluded}
 use Rattle.rust_lex.specs.Identifiers.{is_named, name_of, word_kind, lifetime_kind}
 use Rattle.rust_lex.specs.Numbers.{is_number, are_digits, is_small, base_of, prefix_length, goes_on, is_digit_of, is_suffix, integer_of}
 use Rattle.rust_lex.specs.Lexing.{is_form, kind_of, IsToken, token, is_dot, Lexes, ends, gap, next, fault, AreTokens}
-use Rattle.rust_lex.specs.Slices.{IsTokenOf}
+use Rattle.rust_lex.specs.Slices.{IsTokenOf, AreInText}
 use Rattle.rust_lex.proofs.Tests.{by_test, if_true, and_left, and_right, and_both, and_false, some_same}
 use Rattle.rust_lex.proofs.Fronting.{back_all}
 use Rattle.rust_lex.proofs.Digits.{decimal_digit, number_in}
@@ -88,10 +88,6 @@ value_of dot Mark w h k = absurd cc
 
 -- ---- each token
 
-abbrev pub EachOf : List ℕ → List Token → Type 0
-EachOf text [] = Unit {0}
-EachOf text (t ∷ ts) = IsTokenOf text t × EachOf text ts
-
 one_token : (text : List ℕ) (at n : ℕ) (dot : Bool) (kind : Kind) → at ≤ length text → IsUtf8 (drop at text) → IsToken dot n kind (drop at text) →
     at + n ≤ length text → IsUtf8 (drop (at + n) text) → IsTokenOf text (token kind at n)
 one_token text at n dot kind l u t k v =
@@ -115,7 +111,7 @@ inside : (text : List ℕ) (at n : ℕ) (rest : List ℕ) → rest ≡ drop at t
 inside text at n rest e l k = let d = ap length e ∙ length-drop at text in omega arith
 
 each_token : (text : List ℕ) (at : ℕ) (dot : Bool) (rest : List ℕ) (ts : List Token) (bad : Option Span) → Lexes at dot rest ts bad →
-    rest ≡ drop at text → at ≤ length text → IsUtf8 rest → EachOf text ts
+    rest ≡ drop at text → at ≤ length text → IsUtf8 rest → AreInText text ts
 each_token text at dot rest ts bad (ends) e l u = tt
 each_token text at dot rest ts bad (gap {n = n} g m) e l u =
     let a = gap_advances n rest u g in
@@ -129,11 +125,14 @@ each_token text at dot rest ts bad (next {n = n} {ts = us} {kind = kind} t m) e 
     )
 each_token text at dot rest ts bad (fault f) e l u = tt
 
-each_all : (text : List ℕ) (ts : List Token) → EachOf text ts → All (IsTokenOf text) ts
+each_all : (text : List ℕ) (ts : List Token) → AreInText text ts → All (IsTokenOf text) ts
 each_all text [] h k d l = absurd (omega arith)
 each_all text (t ∷ ts) h zero d l = h.0
 each_all text (t ∷ ts) h (suc k) d l = each_all text ts h.1 k d (omega arith)
 
 -- the tokens of a text
+pub are_in_text : (text : List ℕ) (ts : List Token) (bad : Option Span) → IsUtf8 text → AreTokens text ts bad → AreInText text ts
+are_in_text text ts bad u h = each_token text 0 false text ts bad h refl (omega arith) u
+
 pub all_texts : (text : List ℕ) (ts : List Token) (bad : Option Span) → IsUtf8 text → AreTokens text ts bad → All (IsTokenOf text) ts
-all_texts text ts bad u h = each_all text ts (each_token text 0 false text ts bad h refl (omega arith) u)
+all_texts text ts bad u h = each_all text ts (are_in_text text ts bad u h)

@@ -1,5 +1,5 @@
 -- What is known of each token of a text (LANGUAGE.md, "Tokens").
-use Rattle.std.specs.Prelude.{◌≡◌, ℕ, ◌≤◌, Bool, true, List, Some, IsCharBoundary}
+use Rattle.std.specs.Prelude.{◌≡◌, ℕ, ◌≤◌, Bool, true, List, [], ◌∷◌, Some, IsCharBoundary}
 use Rattle.std.specs.List.{slice_range}
 use Rattle.std.specs.Option.{is_some}
 use Rattle.rust_lex.specs.declared.token.Form.{Form}
@@ -22,3 +22,8 @@ pub record IsTokenOf (text : List ℕ) (t : Token) : Type 0 where
   pub is : is_form after_dot form (text_of text t) ≡ true
   pub is_kind : kind_of form (text_of text t) ≡ Some t.kind
   pub value : t.kind ≡ Integer → is_some (integer_of (text_of text t)) ≡ true
+
+-- each token of a list is one of the text
+abbrev pub AreInText : List ℕ → List Token → Type 0
+AreInText text [] = Unit {0}
+AreInText text (t ∷ ts) = IsTokenOf text t × AreInText text ts

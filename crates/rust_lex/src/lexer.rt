@@ -6,7 +6,7 @@ ghost use Rattle.rust_lex.specs.declared.token.Token.{Token};
 ghost use Rattle.rust_lex.specs.Characters.{begins, is_white as is_white_byte};
 ghost use Rattle.rust_lex.specs.Comments.{begins_block_comment};
 ghost use Rattle.rust_lex.specs.Lexing as spec;
-ghost use Rattle.rust_lex.specs.Slices as slices;
+ghost use Rattle.rust_lex.specs.Slices as places;
 ghost use Rattle.rust_lex.specs.Scan as scan;
 
 use crate::characters::{
@@ -118,7 +118,8 @@ pub fn lex(alloc: Global, text: &str) -> Result<Tokens, NoMem>
     requires { length text.now < 2 ^ 32 }
     ensures tokens { IfOk result (λ r. spec.AreTokens text.now r.list r.bad) }
     ensures only { IfOk result (λ r. spec.NoOthers text.now r.list r.bad) }
-    ensures texts { IfOk result (λ r. All (slices.IsTokenOf text.now) r.list) }
+    ensures slices { IfOk result (λ r. places.AreInText text.now r.list) }
+    ensures texts { IfOk result (λ r. All (places.IsTokenOf text.now) r.list) }
 {
     let mut list = List::new(alloc);
     let mut at = 0;
@@ -150,8 +151,8 @@ pub fn lex(alloc: Global, text: &str) -> Result<Tokens, NoMem>
 
 /// A token's text, which is one of the source's tokens.
 pub fn token_text(text: &str, token: Token) -> &str
-    requires { slices.IsTokenOf text.now token }
-    ensures { result.now ≡ slices.text_of text.now token }
+    requires { places.IsTokenOf text.now token }
+    ensures { result.now ≡ places.text_of text.now token }
 {
     &text[token.span.lo as usize..token.span.hi as usize]
 }

@@ -185,7 +185,7 @@ pub(crate) fn suffix_at(bytes: &[u8]) -> Option<IntTy>
     }
 }
 
-/// The integer type of this name.
+/// The integer type of this name; None exactly where there is none. It takes no memory.
 pub fn int_named(w: &[u8]) -> Option<IntTy>
     ensures { result ≡ spec.int_named w.now }
 {

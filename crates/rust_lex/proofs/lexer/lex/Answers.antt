@@ -3,7 +3,7 @@ use Rattle.rust_lex.specs.declared.step.Step.TheVariants as S
 use Rattle.rust_lex.specs.Lexing as spec
 use Rattle.rust_lex.specs.Scan.{step}
 use Rattle.rust_lex.proofs.Reading.{reads_boundary, gap_turn, token_turn, end_turn, fault_turn, gap_far, token_far, fault_far}
-use Rattle.rust_lex.proofs.Slicing.{all_texts}
+use Rattle.rust_lex.proofs.Slicing.{all_texts, are_in_text}
 use Rattle.rust_lex.proofs.lexer.lex.Goals as goal
 
 pub skip-rest-requires : goal.skip-rest-requires
@@ -97,3 +97,13 @@ pub returns-in-Fault-clause-texts : goal.returns-in-Fault-clause-texts
 returns-in-Fault-clause-texts c =
     let e : step c.reading.after_dot (drop c.reading.at c.args.text.now) ≡ S.Fault c.in-Fault.count = sym (c.in_ok-step.ensures ∙ ap (step c.reading.after_dot) c.skip-rest.ensures) ∙ c.in-Fault.is in
     all_texts c.args.text.now c.reading.list _ c.utf8.text (fault_turn c.args.text.now c.reading.list c.reading.at c.in-Fault.count c.reading.after_dot c.reading.invariant e).tokens
+
+pub returns-in-End-clause-slices : goal.returns-in-End-clause-slices
+returns-in-End-clause-slices c =
+    let e : step c.reading.after_dot (drop c.reading.at c.args.text.now) ≡ S.End = sym (c.in_ok-step.ensures ∙ ap (step c.reading.after_dot) c.skip-rest.ensures) ∙ c.in-End.is in
+    are_in_text c.args.text.now c.reading.list _ c.utf8.text (end_turn c.args.text.now c.reading.list c.reading.at c.reading.after_dot c.reading.invariant e).tokens
+
+pub returns-in-Fault-clause-slices : goal.returns-in-Fault-clause-slices
+returns-in-Fault-clause-slices c =
+    let e : step c.reading.after_dot (drop c.reading.at c.args.text.now) ≡ S.Fault c.in-Fault.count = sym (c.in_ok-step.ensures ∙ ap (step c.reading.after_dot) c.skip-rest.ensures) ∙ c.in-Fault.is in
+    are_in_text c.args.text.now c.reading.list _ c.utf8.text (fault_turn c.args.text.now c.reading.list c.reading.at c.in-Fault.count c.reading.after_dot c.reading.invariant e).tokens
