@@ -1,0 +1,5 @@
+//! Sources and their tokens, as a table.
+#![tactic(auto)]
+
+#[cfg(test)]
+mod table;

@@ -1,0 +1,16 @@
+pub mod Tests
+pub mod Grouped
+pub mod Fronting
+pub mod Strings
+pub mod Closing
+pub mod Suffixes
+pub mod Digits
+pub mod Naming
+pub mod Values
+pub mod Longest
+pub mod FirstBytes
+pub mod Founding
+pub mod Boundaries
+pub mod Stepping
+pub mod Reading
+pub mod Slicing
