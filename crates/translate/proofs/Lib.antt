@@ -12,3 +12,4 @@ pub mod Statements
 pub mod Names
 pub mod Distinct
 pub mod WellFormed
+pub mod Scoping

@@ -43,7 +43,7 @@ each_join : {X : Type 0} (P : X → Type 0) (xs ys : List X) → Each P xs → E
 each_join P [] ys h k = k
 each_join P (x ∷ xs) ys (hx, h) k = (hx, each_join P xs ys h k)
 
-each_get : {X : Type 0} (P : X → Type 0) (xs : List X) (k : ℕ) (x : X) → Each P xs → slice_get xs k ≡ Some x → P x
+pub each_get : {X : Type 0} (P : X → Type 0) (xs : List X) (k : ℕ) (x : X) → Each P xs → slice_get xs k ≡ Some x → P x
 each_get P [] k x h e = absurd (cc)
 each_get P (y ∷ xs) zero x (hy, h) e = subst P (same_Some y x e) hy
 each_get P (y ∷ xs) (suc k) x (hy, h) e = each_get P xs k x h e
