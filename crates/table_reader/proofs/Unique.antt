@@ -14,11 +14,8 @@ use Rattle.table_reader.specs.Reading.{Made, Parts}
 use Rattle.table_reader.proofs.Readings as Readings
 use Rattle.table_reader.proofs.Readings.{of_plain}
 use Rattle.table_reader.proofs.Theorem as H
+use Rattle.table_reader.proofs.Beginnings as B
 use Rattle.table_reader.proofs.Theorem.{left_of, right_of}
-
-append_nil : {A : Type 0} (xs : List A) → xs ++ [] ≡ xs
-append_nil [] = refl
-append_nil {A} (x ∷ xs) = ap (λ (ys : List A). x ∷ ys) (append_nil xs)
 
 module _ {T N L : Type 0} (takes : T → L → Take L) (carrier : N → Type 0) (made : (n : N) → List (Made T N L carrier n)) (rank : ℕ) (weight : L → ℕ)
     (fits : C.Fits takes (Readings.productions takes carrier made) rank weight) where
@@ -55,33 +52,6 @@ module _ {T N L : Type 0} (takes : T → L → Take L) (carrier : N → Type 0) 
   abbrev Begins : List T → L → Type 0
   Begins ts l = H.Begins takes prods rank weight fits ts l
 
-  firm_tail : (d : ℕ) (x : Symbols) (ps : List Symbols) → firm d (x ∷ ps) ≡ true → firm d ps ≡ true
-  firm_tail d [] ps h = h
-  firm_tail d (S.Token t ∷ p) ps h = h
-  firm_tail zero (S.Part n ∷ p) ps h = absurd cc
-  firm_tail (suc d) (S.Part n ∷ p) ps h = right_of (not (has_empty (prods n)) && firm d (prods n)) _ h
-
-  firm_one : (d : ℕ) (x : Symbols) (ps : List Symbols) → firm d (x ∷ ps) ≡ true → firm d (x ∷ []) ≡ true
-  firm_one d [] ps h = refl
-  firm_one d (S.Token t ∷ p) ps h = refl
-  firm_one zero (S.Part n ∷ p) ps h = absurd cc
-  firm_one (suc d) (S.Part n ∷ p) ps h = H.and_both (not (has_empty (prods n)) && firm d (prods n)) true (left_of (not (has_empty (prods n)) && firm d (prods n)) _ h) refl
-
-  heads_split : (d : ℕ) (x : Symbols) (ps : List Symbols) → heads d (x ∷ ps) ≡ heads d (x ∷ []) ++ heads d ps
-  heads_split d [] ps = refl
-  heads_split d (S.Token t ∷ p) ps = refl
-  heads_split zero (S.Part n ∷ p) ps = refl
-  heads_split (suc d) (S.Part n ∷ p) ps = ap (λ (ts : List T). ts ++ heads (suc d) ps) (sym (append_nil (heads d (prods n))))
-
-  -- two productions of which one is the first
-  first_clash : (d : ℕ) (x : Symbols) (ps : List Symbols) (l : L) → all_apart (heads d (x ∷ ps)) ≡ true → Begins (heads d (x ∷ [])) l → Begins (heads d ps) l → ⊥
-  first_clash d x ps l h b c =
-      H.clash takes prods rank weight fits (heads d (x ∷ [])) (heads d ps) l
-      (H.apart_both takes prods rank weight fits (heads d (x ∷ [])) (heads d ps) (subst (λ (ts : List T). all_apart ts ≡ true) (heads_split d x ps) h)) b c
-
-  tail_apart : (d : ℕ) (x : Symbols) (ps : List Symbols) → all_apart (heads d (x ∷ ps)) ≡ true → all_apart (heads d ps) ≡ true
-  tail_apart d x ps h = H.apart_tail takes prods rank weight fits (heads d (x ∷ [])) (heads d ps) (subst (λ (ts : List T). all_apart ts ≡ true) (heads_split d x ps) h)
-
   begins : (d : ℕ) (ps : List Symbols) → firm d ps ≡ true → (q rest : Symbols) (l : L) (ls : List L) → IsOneOf q ps → IsSome q → Derives (q ++ rest) (l ∷ ls) → Begins (heads d ps) l
   begins d ps h q rest l ls i s x = H.begun_heads takes prods rank weight fits d ps h q rest l ls i s x
 
@@ -90,15 +60,15 @@ module _ {T N L : Type 0} (takes : T → L → Take L) (carrier : N → Type 0) 
   same_made n d [] h g a b rest l ls i j s t x y = absurd i
   same_made n d (m ∷ ms) h g a b rest l ls (inl e) (inl f) s t x y = e ∙ sym f
   same_made n d (m ∷ ms) h g a b rest l ls (inl e) (inr j) s t x y =
-      absurd (first_clash d m.symbols (plain n ms) l g
-      (begins d (m.symbols ∷ []) (firm_one d m.symbols (plain n ms) h) a.symbols rest l ls (inl (ap (λ (w : Way n). w.symbols) e)) s x)
-      (begins d (plain n ms) (firm_tail d m.symbols (plain n ms) h) b.symbols rest l ls (of_plain carrier n b ms j) t y))
+      absurd (B.first_clash takes prods rank weight fits d m.symbols (plain n ms) l g
+      (begins d (m.symbols ∷ []) (B.firm_one takes prods rank weight fits d m.symbols (plain n ms) h) a.symbols rest l ls (inl (ap (λ (w : Way n). w.symbols) e)) s x)
+      (begins d (plain n ms) (B.firm_tail takes prods rank weight fits d m.symbols (plain n ms) h) b.symbols rest l ls (of_plain carrier n b ms j) t y))
   same_made n d (m ∷ ms) h g a b rest l ls (inr i) (inl f) s t x y =
-      absurd (first_clash d m.symbols (plain n ms) l g
-      (begins d (m.symbols ∷ []) (firm_one d m.symbols (plain n ms) h) b.symbols rest l ls (inl (ap (λ (w : Way n). w.symbols) f)) t y)
-      (begins d (plain n ms) (firm_tail d m.symbols (plain n ms) h) a.symbols rest l ls (of_plain carrier n a ms i) s x))
+      absurd (B.first_clash takes prods rank weight fits d m.symbols (plain n ms) l g
+      (begins d (m.symbols ∷ []) (B.firm_one takes prods rank weight fits d m.symbols (plain n ms) h) b.symbols rest l ls (inl (ap (λ (w : Way n). w.symbols) f)) t y)
+      (begins d (plain n ms) (B.firm_tail takes prods rank weight fits d m.symbols (plain n ms) h) a.symbols rest l ls (of_plain carrier n a ms i) s x))
   same_made n d (m ∷ ms) h g a b rest l ls (inr i) (inr j) s t x y =
-      same_made n d ms (firm_tail d m.symbols (plain n ms) h) (tail_apart d m.symbols (plain n ms) g) a b rest l ls i j s t x y
+      same_made n d ms (B.firm_tail takes prods rank weight fits d m.symbols (plain n ms) h) (B.tail_apart takes prods rank weight fits d m.symbols (plain n ms) g) a b rest l ls i j s t x y
 
   -- empty ones
   has_it : (ps : List Symbols) → IsOneOf [] ps → has_empty ps ≡ true

@@ -18,3 +18,9 @@ module _ {T N L V : Type 0} (carrier : N → Type 0) (held : (n : N) → carrier
   MakesBy n [] i stack value below = ⊥
   MakesBy n (m ∷ ms) zero stack value below = (vs : Parts T N L carrier m.symbols) × ((stack ≡ put m.symbols vs below) × (value ≡ held n (m.make vs)))
   MakesBy n (m ∷ ms) (suc i) stack value below = MakesBy n ms i stack value below
+
+  -- the values of the symbols of the production in this place stand on top of the stack
+  pub record CanBuild (n : N) (ms : List (Made T N L carrier n)) (i : ℕ) (stack : List (Item L V)) : Type 0 where
+    pub value : V
+    pub below : List (Item L V)
+    pub makes : MakesBy n ms i stack value below

@@ -2,7 +2,7 @@
 
 ghost use Rattle.std.specs.Prelude.{◌≡◌, ℕ, List, reverse, IfOk, OnOk};
 ghost use Rattle.table_reader.specs.declared.item.Item.{Item};
-ghost use Rattle.table_reader.specs.Building.{MakesBy};
+ghost use Rattle.table_reader.specs.Building.{CanBuild, MakesBy};
 ghost use Rattle.table_reader.specs.Reading.{Made, plain};
 
 use crate::grammar::Grammar;
@@ -35,7 +35,7 @@ pub trait Builds: Grammar {
         index: usize,
         values: &mut List<Item<Self::Lexeme, Self::Value>>,
     ) -> Result<Self::Value, NoMem>
-        requires { (value : Self.Value) × ((below : List (Item Self.Lexeme Self.Value)) × MakesBy carrier held part (made part) index (reverse values.old) value below) }
+        requires { CanBuild carrier held part (made part) index (reverse values.old) }
         ensures { IfOk result (λ it. (value : Self.Value) (below : List (Item Self.Lexeme Self.Value)) → MakesBy carrier held part (made part) index (reverse values.old) value below → (it ≡ value) × (reverse values.new ≡ below)) };
 
     /// The productions are those of the grammar.

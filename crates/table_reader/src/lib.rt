@@ -2,9 +2,11 @@
 #![tactic(auto)]
 
 mod builds;
+mod choice;
 mod coming;
 mod grammar;
 mod item;
+mod reader;
 mod recognizer;
 mod symbol;
 mod take;
@@ -12,6 +14,7 @@ mod take;
 pub use builds::Builds;
 pub use grammar::Grammar;
 pub use item::Item;
+pub use reader::read;
 pub use recognizer::grammar_fault;
 pub use symbol::{Production, Symbol};
 pub use take::Take;
