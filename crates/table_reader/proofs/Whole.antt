@@ -1,5 +1,5 @@
 -- Lexemes that are derived from a part are read as one value, to which they lead.
-use Rattle.std.proofs.Common.{◌≡◌, refl, sym, ap, ◌∙◌, subst, ℕ, zero, suc, ◌<◌, ◌≤◌, ◌+◌, arith, add-one, inl, inr, ◌⊎◌, List, [], ◌∷◌, ◌++◌, take, drop, drop-cons, length, get_or, reverse}
+use Rattle.std.proofs.Common.{◌≡◌, refl, sym, ap, ◌∙◌, subst, ℕ, zero, suc, ◌<◌, ◌≤◌, ◌+◌, arith, add-one, inl, inr, ◌⊎◌, List, [], ◌∷◌, ◌++◌, take, drop, drop-cons, length, get_or, reverse, Option, Some, None, MatchOption}
 use Rattle.std.proofs.lemmas.List.{drop_all}
 use Rattle.table_reader.specs.declared.coming.Coming.{Coming}
 use Rattle.table_reader.specs.declared.coming.Coming.TheVariants as C
@@ -59,6 +59,11 @@ module _ {T N L V : Type 0} (takes : T → L → Take L) (carrier : N → Type 0
   pub fault_not_read : (n : N) (ls : List L) (k : ℕ) → D.IsFault takes productions (S.Part n ∷ []) ls k → IsNotRead takes carrier made n ls
   fault_not_read n ls k f v r = fault_underived takes productions (S.Part n ∷ []) ls k f (read_derived n ls v r)
 
+  pub told_not_read : (n : N) (ls : List L) (o : Option ℕ) (k : ℕ) → o ≡ Some k →
+      MatchOption o (D.Derives takes productions (S.Part n ∷ []) ls) (λ k. D.IsFault takes productions (S.Part n ∷ []) ls k) → IsNotRead takes carrier made n ls
+  told_not_read n ls None k e h = absurd cc
+  told_not_read n ls (Some j) k e h = fault_not_read n ls j h
+
   pub record Reading (n : N) (ls : List L) : Type 0 where
     pub value : carrier n
     pub reads : R.Reads takes carrier made n ls [] value
@@ -94,8 +99,11 @@ module _ {T N L V : Type 0} (takes : T → L → Take L) (carrier : N → Type 0
     }
 
     module _ (to : ToCome) (values : Values) (i : ℕ) (leads : (last : Values) → Leads (C.Part n ∷ []) [] ls last → Leads to values (drop i ls) last) where
+      pub ends_in : length ls ≤ i → Leads to values [] last
+      ends_in h = subst (λ (us : List L). Leads to values us last) (drop_all i ls h) (leads last leads_all)
+
       pub can_finish : length ls ≤ i → M.CanFinish takes carrier made held to values
-      can_finish h = record { value = held n value; leads = subst (λ (us : List L). Leads to values us last) (drop_all i ls h) (leads last leads_all) }
+      can_finish h = record { value = held n value; leads = ends_in h }
 
       module _ (l : L) (h : i < length ls) (is : l ≡ get_or ls i l) where
         next : drop i ls ≡ l ∷ drop (i + 1) ls
