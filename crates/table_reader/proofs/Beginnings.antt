@@ -148,7 +148,6 @@ module _ {T N L : Type 0} (takes : T → L → Take L) (productions : N → List
   pub tail_apart : (d : ℕ) (x : Symbols) (ps : List Symbols) → all_apart (heads d (x ∷ ps)) ≡ true → all_apart (heads d ps) ≡ true
   tail_apart d x ps h = H.apart_tail takes productions rank weight fits (heads d (x ∷ [])) (heads d ps) (subst (λ (ts : List T). all_apart ts ≡ true) (heads_split d x ps) h)
 
-
   -- the test whether a token takes the lexeme
   abbrev taken_by : L → T → Bool
   taken_by l t = accepts (takes t l)

@@ -1,5 +1,5 @@
 -- How a part that begins with a lexeme is opened, down to the token that takes the lexeme.
-use Rattle.std.proofs.Common.{◌≡◌, refl, sym, ap, ◌∙◌, subst, ℕ, zero, suc, ◌+◌, arith, inl, inr, Bool, true, false, List, [], ◌∷◌, ◌++◌, map, Option, Some, None}
+use Rattle.std.proofs.Common.{◌≡◌, refl, sym, ap, ◌∙◌, subst, ℕ, zero, suc, Bool, true, false, List, [], ◌∷◌, ◌++◌, map, Some, None}
 use Rattle.std.specs.Prelude.{not, ◌&&◌}
 use Rattle.table_reader.specs.declared.coming.Coming.{Coming}
 use Rattle.table_reader.specs.declared.coming.Coming.TheVariants as C
@@ -12,9 +12,7 @@ use Rattle.table_reader.specs.Steps.{has_empty}
 use Rattle.table_reader.specs.Reading.{Made, plain}
 use Rattle.table_reader.specs.Machine as M
 use Rattle.table_reader.specs.Machine.{IsAt, IsReached, HasFirst, coming, symbols, begun, empty_place}
-use Rattle.table_reader.proofs.Theorem as H
 use Rattle.table_reader.proofs.Theorem.{left_of, right_of}
-use Rattle.table_reader.proofs.Beginnings as B
 use Rattle.table_reader.proofs.Beginnings.{one_of_at, first_at}
 use Rattle.table_reader.proofs.Leading as Leading
 use Rattle.table_reader.proofs.Leading.{symbols_coming}
@@ -38,8 +36,12 @@ firm_lead productions (suc d) k q zero ((S.Part n ∷ p) ∷ ps) f h =
     let same : n ≡ k = cc in
     let both = left_of (not (has_empty (productions n)) && firm productions d (productions n)) _ f in
     subst (λ (j : _). Lead productions (suc d) j) same
-    (record { less = d; more = refl; never_empty = none_empty (has_empty (productions n)) (left_of (not (has_empty (productions n))) _ both);
-      firm_too = right_of (not (has_empty (productions n))) _ both })
+    (record {
+      less = d;
+      more = refl;
+      never_empty = none_empty (has_empty (productions n)) (left_of (not (has_empty (productions n))) _ both);
+      firm_too = right_of (not (has_empty (productions n))) _ both;
+    })
   where
     none_empty : (b : Bool) → not b ≡ true → b ≡ false
     none_empty true h = absurd cc

@@ -1,5 +1,5 @@
 -- What is read leads from a part to its value, and each production on the way is forced.
-use Rattle.std.proofs.Common.{◌≡◌, refl, sym, ap, ◌∙◌, subst, ℕ, zero, suc, inl, inr, Bool, true, false, List, [], ◌∷◌, ◌++◌, map, append_assoc, Option, Some, None}
+use Rattle.std.proofs.Common.{◌≡◌, refl, ap, subst, ℕ, zero, suc, false, List, [], ◌∷◌, ◌++◌, map, Option, Some, None}
 use Rattle.table_reader.specs.declared.coming.Coming.{Coming}
 use Rattle.table_reader.specs.declared.coming.Coming.TheVariants as C
 use Rattle.table_reader.specs.declared.item.Item.{Item}
@@ -9,7 +9,7 @@ use Rattle.table_reader.specs.declared.symbol.Symbol.TheVariants as S
 use Rattle.table_reader.specs.declared.take.Take.{Take}
 use Rattle.table_reader.specs.Derivations as D
 use Rattle.table_reader.specs.Derivations.{IsOneOf}
-use Rattle.table_reader.specs.Conditions.{Fits, single}
+use Rattle.table_reader.specs.Conditions.{Fits}
 use Rattle.table_reader.specs.Steps.{has_empty}
 use Rattle.table_reader.specs.Reading as R
 use Rattle.table_reader.specs.Reading.{Made, Parts, plain}

@@ -1,5 +1,5 @@
 -- What a lexeme and others led to, what is left leads to after a token, and after what was built.
-use Rattle.std.proofs.Common.{◌≡◌, refl, sym, ap, ◌∙◌, subst, ℕ, zero, suc, ◌<◌, arith, inl, inr, Bool, true, false, List, [], ◌∷◌, ◌++◌, map, reverse, Option, Some, None, MatchOption}
+use Rattle.std.proofs.Common.{◌≡◌, refl, sym, ap, ◌∙◌, subst, ℕ, suc, ◌<◌, arith, true, List, [], ◌∷◌, ◌++◌, reverse, Option, Some, None, MatchOption}
 use Rattle.std.specs.Prelude.{⊤}
 use Rattle.table_reader.specs.declared.coming.Coming.{Coming}
 use Rattle.table_reader.specs.declared.coming.Coming.TheVariants as C

@@ -1,5 +1,5 @@
 -- Lexemes that are derived from a part are read as one value, to which they lead.
-use Rattle.std.proofs.Common.{◌≡◌, refl, sym, ap, ◌∙◌, subst, ℕ, zero, suc, ◌<◌, ◌≤◌, ◌+◌, arith, add-one, inl, inr, ◌⊎◌, List, [], ◌∷◌, ◌++◌, take, drop, drop-cons, length, get_or, reverse, Option, Some, None, MatchOption}
+use Rattle.std.proofs.Common.{◌≡◌, refl, sym, ap, ◌∙◌, subst, ℕ, zero, suc, ◌<◌, ◌≤◌, ◌+◌, arith, inl, inr, ◌⊎◌, List, [], ◌∷◌, ◌++◌, take, drop, drop-cons, length, get_or, Option, Some, None, MatchOption}
 use Rattle.std.proofs.lemmas.List.{drop_all}
 use Rattle.table_reader.specs.declared.coming.Coming.{Coming}
 use Rattle.table_reader.specs.declared.coming.Coming.TheVariants as C
@@ -34,8 +34,8 @@ pub fault_underived : {T N L : Type 0} (takes : T → L → Take L) (productions
     D.IsFault takes productions s ls k → D.Derives takes productions s ls → ⊥
 fault_underived takes productions s ls k f d =
     elim (below_or_at k (length ls) f.within) [
-      inl b ↦ f.here b (drop (suc k) ls, subst (λ (us : _). D.Derives takes productions s us) (sym (all_items (suc k) ls)) d)
-    | inr e ↦ f.ends e d
+      | inl b ↦ f.here b (drop (suc k) ls, subst (λ (us : _). D.Derives takes productions s us) (sym (all_items (suc k) ls)) d)
+      | inr e ↦ f.ends e d
     ]
 
 module _ {T N L V : Type 0} (takes : T → L → Take L) (carrier : N → Type 0) (made : (n : N) → List (Made T N L carrier n)) (held : (n : N) → carrier n → V)

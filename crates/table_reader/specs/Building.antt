@@ -4,14 +4,18 @@ use Rattle.table_reader.specs.declared.item.Item.{Item}
 use Rattle.table_reader.specs.declared.item.Item.TheVariants as I
 use Rattle.table_reader.specs.declared.symbol.Symbol.{Symbol}
 use Rattle.table_reader.specs.declared.symbol.Symbol.TheVariants as S
-use Rattle.table_reader.specs.Reading.{Made, Parts}
+use Rattle.table_reader.specs.Reading.{Made, Parts, ValueOf}
 
 module _ {T N L V : Type 0} (carrier : N → Type 0) (held : (n : N) → carrier n → V) where
+  -- how the value of a symbol is held on a stack
+  abbrev pub item : (s : Symbol T N) → ValueOf T N L carrier s → Item L V
+  item (S.Token t) v = I.Token v
+  item (S.Part n) v = I.Part (held n v)
+
   -- the values of symbols, put on a stack one after another
   abbrev pub put : (p : List (Symbol T N)) → Parts T N L carrier p → List (Item L V) → List (Item L V)
   put [] vs below = below
-  put (S.Token t ∷ p) vs below = put p vs.1 (I.Token vs.0 ∷ below)
-  put (S.Part n ∷ p) vs below = put p vs.1 (I.Part (held n vs.0) ∷ below)
+  put (s ∷ p) vs below = put p vs.1 (item s vs.0 ∷ below)
 
   -- the production in this place makes this value of what stands on top of the stack, and this is below
   abbrev pub MakesBy : (n : N) → List (Made T N L carrier n) → ℕ → List (Item L V) → V → List (Item L V) → Type 0

@@ -3,5 +3,6 @@ pub mod Steps
 pub mod Stacks
 pub mod Conditions
 pub mod Reading
+pub mod Making
 pub mod Building
 pub mod Machine

@@ -6,11 +6,15 @@ use Rattle.table_reader.specs.declared.take.Take.{Take}
 use Rattle.table_reader.specs.declared.take.Take.TheVariants as K
 use Rattle.table_reader.specs.Derivations.{IsOneOf}
 
--- values of symbols: of a token the lexeme or front that it takes, of a part what it carries
+-- the value of a symbol: of a token the lexeme or front that it takes, of a part what it carries
+abbrev pub ValueOf : (T N L : Type 0) → (N → Type 0) → Symbol T N → Type 0
+ValueOf T N L carrier (S.Token t) = L
+ValueOf T N L carrier (S.Part n) = carrier n
+
+-- the values of symbols
 abbrev pub Parts : (T N L : Type 0) → (N → Type 0) → List (Symbol T N) → Type 0
 Parts T N L carrier [] = Unit {0}
-Parts T N L carrier (S.Token t ∷ p) = L × Parts T N L carrier p
-Parts T N L carrier (S.Part n ∷ p) = carrier n × Parts T N L carrier p
+Parts T N L carrier (s ∷ p) = ValueOf T N L carrier s × Parts T N L carrier p
 
 -- a production of a part, and what it makes
 pub record Made (T N L : Type 0) (carrier : N → Type 0) (n : N) : Type 0 where

@@ -11,6 +11,15 @@ use aen_base::{List, NoMem};
 use std::alloc::Global;
 
 /// A grammar whose productions build values.
+///
+/// A language gives `carrier` and, for each part, one function for each of its productions, in order,
+/// typed by the values of its symbols: `makes`, of type `Makes` (specs/Making.antt). Then `made` is
+/// `made_by` of them and `same_productions` is `same_made`. A `Value` is an enum with one variant for
+/// each type that parts carry, and `held` puts a part's value into its variant. In `build` a `match`
+/// on the part, and on the place where there are several productions, calls a function for each
+/// production; it takes the values off, the last first (an item of another variant can't stand
+/// there: `unreachable!()`), and gives what `makes` says. At a known part and place `CanBuild` and
+/// `MakesBy` compute to the values of that production's symbols.
 pub trait Builds: Grammar {
     type Value: Drop;
 

@@ -44,11 +44,7 @@ pub fn read<G: Builds>(
 }
 
 /// The value of lexemes that are derived from a part.
-fn make<G: Builds>(
-    alloc: Global,
-    start: G::Part,
-    lexemes: &[G::Lexeme],
-) -> Result<G::Value, NoMem>
+fn make<G: Builds>(alloc: Global, start: G::Part, lexemes: &[G::Lexeme]) -> Result<G::Value, NoMem>
     requires { Derives G.takes G.productions (S.Part start ∷ []) lexemes.now }
     ensures { IfOk result (λ value. IsReadAs G.takes G.carrier G.made G.held start lexemes.now value) }
 {

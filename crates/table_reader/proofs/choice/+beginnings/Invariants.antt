@@ -1,5 +1,5 @@
 -- Each leading part has less rank.
-use Rattle.std.proofs.Common.{◌≡◌, ℕ, ◌+◌, ◌*◌, drop}
+use Rattle.std.proofs.Common.{◌≡◌, ◌+◌, ◌*◌, drop}
 use Rattle.table_reader.specs.Derivations.{rows}
 use Rattle.table_reader.specs.Machine.{begins}
 use Rattle.table_reader.proofs.choice.+beginnings.Given as goal

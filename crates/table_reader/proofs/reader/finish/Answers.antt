@@ -1,5 +1,5 @@
 -- What is over is built, until the value of the whole stands alone.
-use Rattle.std.proofs.Common.{◌≡◌, ap, ◌∙◌, reverse, [], ◌∷◌, ◌++◌}
+use Rattle.std.proofs.Common.{ap, ◌∙◌, reverse, [], ◌∷◌, ◌++◌}
 use Rattle.table_reader.specs.declared.coming.Coming.TheVariants as C
 use Rattle.table_reader.specs.declared.item.Item.TheVariants as I
 use Rattle.table_reader.proofs.Turning as U
@@ -60,4 +60,3 @@ returns g c =
     let v = g.G.Builds in
     λ value h. U.value_is b.takes v.carrier v.made v.held b.productions g.met.G.Builds.same_productions b.rank b.weight g.met.G.Grammar.fits c.loop-symbol.coming c.loop-symbol.values c.pop-2.new.self c.in-Some-pop.item value c.in-Part-item.value c.in_default.ensures.0 c.in-Some-pop.ensures c.in-Part-item.is
     (c.loop-symbol.invariant (I.Part value ∷ []) h)
-

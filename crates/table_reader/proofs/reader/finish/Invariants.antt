@@ -1,6 +1,5 @@
 -- What was built leads to the same value.
-use Rattle.std.proofs.Common.{[], ◌∷◌, reverse, length}
-use Rattle.table_reader.specs.declared.item.Item.TheVariants as I
+use Rattle.std.proofs.Common.{[], reverse, length}
 use Rattle.table_reader.specs.Machine.{Leads}
 use Rattle.table_reader.proofs.reader.finish.Given as goal
 

@@ -1,5 +1,5 @@
 -- The production in this place is the one that is put there.
-use Rattle.std.proofs.Common.{sym, subst, List, [], ◌∷◌}
+use Rattle.std.proofs.Common.{sym, subst, List, ◌∷◌}
 use Rattle.table_reader.specs.Machine.{IsAt}
 use Rattle.table_reader.proofs.Beginnings.{same_at, at_within, some_within}
 use Rattle.table_reader.proofs.reader.open.Goals as goal
