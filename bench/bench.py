@@ -2,8 +2,7 @@
 """bench.py [PROGRAM]: time, peak memory and growth of the built program on inputs that double.
 
 PROGRAM is what `./aeneas build` builds where it isn't given. Sources for `translate` have many
-functions with lets, sums of ten terms and calls, or a single function with one long sum, or with many
-lets. One source for `run` is a chain of 250 calls. Texts for `eval` have many definitions with types
+functions with lets, sums of ten terms and calls, or a single function with many lets. One source for `run` is a chain of 250 calls. Texts for `eval` have many definitions with types
 and matches, or one definition with many binds, and are read whole before one of their definitions is
 evaluated. The last line is a loop of sums at a fuel of 1,000,000, by the program loop_bench where
 that is built.
@@ -41,12 +40,6 @@ def many_functions(size):
         parts.append(text)
         length += len(text)
         k += 1
-
-
-def one_sum(size):
-    """One function whose body is one long sum."""
-    head, tail = "fn f(x: u32) -> u32 { x", " }"
-    return head + "+x" * ((size - len(head) - len(tail)) // 2) + tail
 
 
 def many_lets(size):
@@ -150,7 +143,7 @@ def main():
     if not os.access(PROGRAM, os.X_OK):
         sys.exit(f"bench.py: there is no program {PROGRAM}: ./aeneas build makes it")
     print(f"{'input':24} {'bytes':>9} {'seconds':>8} {'growth':>7} {'peak MB':>8} {'a byte':>6} {'written':>9} status")
-    for name, make in [("many functions", many_functions), ("one sum", one_sum), ("many lets", many_lets)]:
+    for name, make in [("many functions", many_functions), ("many lets", many_lets)]:
         table(f"translate {name}", make, SOURCE_SIZES, ["translate", "a"])
     table("run a chain of calls", call_chain, [250], ["run", "a", "step250", "250", "1"])
     table("eval many definitions", many_definitions, TEXT_SIZES, ["eval", "a", "fn.g0", "9", "L.nil"])

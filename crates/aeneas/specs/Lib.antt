@@ -3,6 +3,8 @@ pub mod Lines
 pub mod Limits
 pub mod Refusals
 pub mod Seen
+pub mod Utf8
+pub mod Syntax
 pub mod Translation
 pub mod Source
 pub mod Run

@@ -1,7 +1,6 @@
 -- A file as a printed text: read whole within the limit, and the definitions that it is; or why it
 -- is none (PROMISES.md, "Safe and total").
 use Rattle.std.specs.Prelude.{◌≡◌, ℕ, ◌⊎◌, List, IsUtf8}
-use Rattle.std.specs.Str.{IsValidUpTo}
 use Rattle.aen_base.specs.declared.limits.Which.TheVariants as L
 use Rattle.aen_base.specs.declared.span.Span.{Span}
 use Rattle.lean_reader.specs.Faults.{IsFaultPlace}
@@ -10,13 +9,7 @@ use Rattle.pure_ast.specs.declared.def.Defs.{Defs}
 use Rattle.aeneas.specs.declared.refusal.Refusal.{Refusal}
 use Rattle.aeneas.specs.declared.refusal.Refusal.TheVariants as R
 use Rattle.aeneas.specs.Seen.{Seen, OfFile, ReadRefusal}
-
--- 4: the content isn't UTF-8; `valid` is the length of its longest valid front
-pub record IsNoUtf8 (content : List ℕ) (refusal : Refusal) : Type 0 where
-  pub valid : ℕ
-  pub is : refusal ≡ R.Utf8 valid
-  pub cause : IsUtf8 content → ⊥
-  pub longest : IsValidUpTo content valid
+use Rattle.aeneas.specs.Utf8.{IsNoUtf8}
 
 -- 12: the content is no printed text; its first fault stands there
 pub record IsNoText (content : List ℕ) (refusal : Refusal) : Type 0 where

@@ -1,8 +1,9 @@
 -- The refusals: each with its status and its line (README.md, "Statuses").
 use Rattle.std.specs.Prelude.{◌≡◌, ℕ, List, ◌++◌, codes}
 use Rattle.std.specs.Fmt.{decimal}
+use Rattle.aen_base.specs.declared.span.Span.{Span}
 use Rattle.aeneas.specs.declared.refusal.Refusal.{Refusal}
-use Rattle.aeneas.specs.declared.refusal.Refusal.TheVariants.{Usage, Read, Utf8, Syntax, Limit, Count, Argument, Types, Text, Name}
+use Rattle.aeneas.specs.declared.refusal.Refusal.TheVariants.{Usage, Read, Utf8, Syntax, Unsupported, Later, Limit, Count, Argument, Types, Text, Name}
 use Rattle.aeneas.specs.Limits.{limit_word}
 use Rattle.aeneas.specs.Lines.{line}
 
@@ -11,7 +12,9 @@ abbrev pub refusal_status : Refusal → ℕ
 refusal_status Usage = 1
 refusal_status Read = 2
 refusal_status (Utf8 valid) = 4
-refusal_status Syntax = 5
+refusal_status (Syntax span) = 5
+refusal_status (Unsupported span) = 6
+refusal_status Later = 30
 refusal_status (Limit which count) = 10
 refusal_status (Count expected given) = 11
 refusal_status (Argument place) = 11
@@ -19,17 +22,23 @@ refusal_status Types = 11
 refusal_status (Text span) = 12
 refusal_status Name = 13
 
+-- a word and a place
+abbrev pub place_text : List ℕ → Span → List ℕ
+place_text word span = word ++ (codes " " ++ (decimal span.lo ++ (codes ".." ++ decimal span.hi)))
+
 -- what the line says of it
 abbrev pub refusal_text : Refusal → List ℕ
 refusal_text Usage = codes "usage"
 refusal_text Read = codes "read"
 refusal_text (Utf8 valid) = codes "utf8 " ++ decimal valid
-refusal_text Syntax = codes "syntax"
+refusal_text (Syntax span) = place_text (codes "syntax") span
+refusal_text (Unsupported span) = place_text (codes "unsupported") span
+refusal_text Later = codes "later"
 refusal_text (Limit which count) = codes "limit " ++ (limit_word which ++ (codes " " ++ decimal count))
 refusal_text (Count expected given) = codes "count " ++ (decimal expected ++ (codes " " ++ decimal given))
 refusal_text (Argument place) = codes "argument " ++ decimal place
 refusal_text Types = codes "types"
-refusal_text (Text span) = codes "text " ++ (decimal span.lo ++ (codes ".." ++ decimal span.hi))
+refusal_text (Text span) = place_text (codes "text") span
 refusal_text Name = codes "name"
 
 -- the line: `refused`, the status, and what it says

@@ -8,11 +8,18 @@ use Rattle.source_meaning.specs.Typing.{IsTyped}
 use Rattle.aeneas.specs.declared.refusal.Refusal.{Refusal}
 use Rattle.aeneas.specs.declared.refusal.Refusal.TheVariants as R
 use Rattle.aeneas.specs.Seen.{Seen, OfFile, ReadRefusal}
+use Rattle.aeneas.specs.Syntax.{KeepsSyntax, BreaksSyntax}
+use Rattle.aeneas.specs.Utf8.{IsNoUtf8}
 
--- 5: the content is no program
-pub record IsNoProgram (content : List ℕ) (refusal : Refusal) : Type 0 where
-  pub is : refusal ≡ R.Syntax
+-- 30: the content keeps the language's grammar, and is no program of what is translated today
+pub record IsLater (content : List ℕ) (refusal : Refusal) : Type 0 where
+  pub is : refusal ≡ R.Later
+  pub kept : KeepsSyntax content
   pub cause : (p : Program) → Reads content p → ⊥
+
+-- what is wrong with a content
+abbrev pub SourceFault : List ℕ → Refusal → Type 0
+SourceFault content refusal = IsNoUtf8 content refusal ⊎ (BreaksSyntax content refusal ⊎ IsLater content refusal)
 
 -- the content is this program and no other
 pub record IsProgramOf (content : List ℕ) (program : Program) : Type 0 where
@@ -20,10 +27,15 @@ pub record IsProgramOf (content : List ℕ) (program : Program) : Type 0 where
   pub only : (other : Program) → Reads content other → other ≡ program
   pub typed : IsTyped program
 
+-- the content keeps the language's grammar, and is this program
+pub record IsSourceOf (content : List ℕ) (program : Program) : Type 0 where
+  pub kept : KeepsSyntax content
+  pub is_program : IsProgramOf content program
+
 -- the file is this program
 abbrev pub IsSource : Seen → List ℕ → Program → Type 0
-IsSource s file program = OfFile L.Source s file (λ content. IsProgramOf content program)
+IsSource s file program = OfFile L.Source s file (λ content. IsSourceOf content program)
 
 -- why a file is no source
 abbrev pub SourceRefusal : Seen → List ℕ → Refusal → Type 0
-SourceRefusal s file refusal = ReadRefusal L.Source s file refusal ⊎ OfFile L.Source s file (λ content. IsNoProgram content refusal)
+SourceRefusal s file refusal = ReadRefusal L.Source s file refusal ⊎ OfFile L.Source s file (λ content. SourceFault content refusal)

@@ -1,5 +1,6 @@
 ghost use Rattle.std.specs.Prelude.{◌≡◌, IfOk};
-ghost use Rattle.aeneas.specs.Refusals.{refusal_status, refusal_text, refusal_line};
+ghost use Rattle.std.specs.String.{string_bytes};
+ghost use Rattle.aeneas.specs.Refusals.{refusal_status, refusal_text, refusal_line, place_text};
 
 use crate::limits::limit_word;
 use aen_base::{NoMem, Span, Text, Which};
@@ -14,8 +15,12 @@ pub enum Refusal {
     Read,
     /// The file isn't UTF-8; so many of its first bytes are.
     Utf8(u64),
-    /// The file is no program.
-    Syntax,
+    /// The source is no program of the language; its first fault stands there.
+    Syntax(Span),
+    /// The first word of the source that is left out of the language.
+    Unsupported(Span),
+    /// The source keeps the language's grammar, and isn't in what is translated today.
+    Later,
     /// A count passes its limit: which one, and the limit plus one, or for FUEL the number given.
     Limit(Which, u64),
     /// So many values were expected, and so many given.
@@ -39,7 +44,9 @@ impl Refusal {
             Refusal::Usage => 1,
             Refusal::Read => 2,
             Refusal::Utf8(_) => 4,
-            Refusal::Syntax => 5,
+            Refusal::Syntax(_) => 5,
+            Refusal::Unsupported(_) => 6,
+            Refusal::Later => 30,
             Refusal::Limit(_, _) => 10,
             Refusal::Count(_, _) | Refusal::Argument(_) | Refusal::Types => 11,
             Refusal::Text(_) => 12,
@@ -65,7 +72,9 @@ impl Refusal {
             Refusal::Usage => String::from_str(alloc, "usage")?,
             Refusal::Read => String::from_str(alloc, "read")?,
             Refusal::Utf8(valid) => format!(in alloc; "utf8 {valid}")?,
-            Refusal::Syntax => String::from_str(alloc, "syntax")?,
+            Refusal::Syntax(span) => place_text(alloc, "syntax", span)?,
+            Refusal::Unsupported(span) => place_text(alloc, "unsupported", span)?,
+            Refusal::Later => String::from_str(alloc, "later")?,
             Refusal::Limit(which, count) => {
                 let word = limit_word(which);
                 format!(in alloc; "limit {word} {count}")?
@@ -73,12 +82,17 @@ impl Refusal {
             Refusal::Count(expected, given) => format!(in alloc; "count {expected} {given}")?,
             Refusal::Argument(place) => format!(in alloc; "argument {place}")?,
             Refusal::Types => String::from_str(alloc, "types")?,
-            Refusal::Text(span) => {
-                let (lo, hi) = (span.lo, span.hi);
-                format!(in alloc; "text {lo}..{hi}")?
-            }
+            Refusal::Text(span) => place_text(alloc, "text", span)?,
             Refusal::Name => String::from_str(alloc, "name")?,
         };
         Ok(Text::new(text))
     }
+}
+
+/// A word and a place. The only error is want of memory.
+fn place_text(alloc: Global, word: &str, span: Span) -> Result<String, NoMem>
+    ensures { IfOk result (λ t. string_bytes t ≡ place_text word.now span) }
+{
+    let (lo, hi) = (span.lo, span.hi);
+    Ok(format!(in alloc; "{word} {lo}..{hi}")?)
 }

@@ -1,5 +1,6 @@
 use crate::table::{GOOD, Outside, Row, answers, gives};
 use aen_base::NoMem;
+use std::alloc::{AllocError, Global};
 
 const ADD1: &[u8] = b"fn add1(x: u32) -> u32 { x + 1 }";
 
@@ -8,7 +9,7 @@ const ADD1_TEXT: &str =
 
 const HEADER: &str = "import AenPrelude\nopen AenPrelude\n";
 
-const SYNTAX: &str = "refused 5 syntax\n";
+const LATER: &str = "refused 30 later\n";
 
 const TRANSLATE: &[&str] = &["translate", "a.rs"];
 
@@ -47,32 +48,44 @@ const ROWS: &[Row] = &[
     Row {
         content: b"fn f() -> u32 { g() }",
         words: TRANSLATE,
-        status: 5,
-        text: SYNTAX,
+        status: 30,
+        text: LATER,
     },
     Row {
         content: b"fn \xff",
         words: TRANSLATE,
+        status: 4,
+        text: "refused 4 utf8 3\n",
+    },
+    Row {
+        content: b"fn f(",
+        words: TRANSLATE,
         status: 5,
-        text: SYNTAX,
+        text: "refused 5 syntax 5..5\n",
+    },
+    Row {
+        content: b"trait T {}",
+        words: TRANSLATE,
+        status: 6,
+        text: "refused 6 unsupported 0..5\n",
     },
     Row {
         content: b"fn f() -> u32 { 4294967296 }",
         words: TRANSLATE,
-        status: 5,
-        text: SYNTAX,
+        status: 30,
+        text: LATER,
     },
     Row {
         content: b"fn f() -> u32 { f() }",
         words: TRANSLATE,
-        status: 5,
-        text: SYNTAX,
+        status: 30,
+        text: LATER,
     },
     Row {
         content: b"fn f() -> u32 { 1 } fn f() -> u32 { 1 }",
         words: TRANSLATE,
-        status: 5,
-        text: SYNTAX,
+        status: 30,
+        text: LATER,
     },
 ];
 
@@ -95,6 +108,33 @@ fn the_limit_of_a_source(rt: HostRuntime) -> Result<(), NoMem> {
     let line = b"refused 10 limit source 1048577\n";
     let above = answers(rt.alloc(), &GOOD, &spaces, TRANSLATE, 10, line)?;
     assert!(rt; above);
+    Ok(())
+}
+
+/// A function whose value is 1 in so many round brackets.
+fn bracketed(alloc: Global, brackets: u32) -> Result<String, AllocError> {
+    let mut source = String::from_str(alloc, "fn f() -> u32 { ")?;
+    for _ in 0..brackets {
+        source.push_str("(")?;
+    }
+    source.push_str("1")?;
+    for _ in 0..brackets {
+        source.push_str(")")?;
+    }
+    source.push_str(" }")?;
+    Ok(source)
+}
+
+/// At most 100 brackets are open at once.
+#[test]
+fn the_limit_of_nesting(rt: HostRuntime) -> Result<(), NoMem> {
+    let within = bracketed(rt.alloc(), 99)?;
+    let kept = answers(rt.alloc(), &GOOD, within.as_bytes(), TRANSLATE, 30, LATER.as_bytes())?;
+    assert!(rt; kept);
+    let above = bracketed(rt.alloc(), 100)?;
+    let line = b"refused 10 limit nesting 101\n";
+    let refused = answers(rt.alloc(), &GOOD, above.as_bytes(), TRANSLATE, 10, line)?;
+    assert!(rt; refused);
     Ok(())
 }
 

@@ -1,4 +1,4 @@
-//! A sum of many numbers, which runs without a stack.
+//! The longest sum of a source: at most 250 brackets and operators count at a token.
 use crate::table::{GOOD, answers};
 use aen_base::NoMem;
 use std::alloc::{AllocError, Global};
@@ -14,17 +14,21 @@ fn counting(alloc: Global, ones: u32) -> Result<String, AllocError> {
 }
 
 #[test]
-fn a_long_sum_is_run(rt: HostRuntime) -> Result<(), NoMem> {
+fn the_limit_of_depth(rt: HostRuntime) -> Result<(), NoMem> {
     const WORDS: &[&str] = &["run", "a.rs", "f", "1", "1"];
-    let source = counting(rt.alloc(), 500_000)?;
-    let given = answers(
+    let longest = counting(rt.alloc(), 249)?;
+    let run = answers(
         rt.alloc(),
         &GOOD,
-        source.as_bytes(),
+        longest.as_bytes(),
         WORDS,
         0,
-        b"value 500001\n",
+        b"value 250\n",
     )?;
-    assert!(rt; given);
+    assert!(rt; run);
+    let above = counting(rt.alloc(), 250)?;
+    let line = b"refused 10 limit depth 251\n";
+    let refused = answers(rt.alloc(), &GOOD, above.as_bytes(), WORDS, 10, line)?;
+    assert!(rt; refused);
     Ok(())
 }

@@ -14,6 +14,6 @@ returns-in-Ok-clause-found g c =
     let ok = c.in-Ok.ensures in
     let few : length c.in-Ok.content.items ≤ greatest L.Source = omega (arith, ok.within, c.greatest.ensures, c.in-Ok.content.ok.0) in
     let same : c.deref.result.now ≡ c.in-Ok.content.items = c.deref.ensures.value in
-    IfOk-weaker c.program_of.result (IsFoundIn c.deref.result.now) (IsFound s c.args.file.now)
+    IfOk-weaker c.content_program.result (IsFoundIn c.deref.result.now) (IsFound s c.args.file.now)
     (λ x h. source_found s c.args.file.now c.deref.result.now (same ∙ ok.whole.bytes_are) (read_whole L.Source s c.args.file.now c.in-Ok.content.items ok.whole few ok.content) x h)
-    c.program_of.ensures
+    c.content_program.ensures
