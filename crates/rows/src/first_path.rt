@@ -129,7 +129,14 @@ fn bracketed(alloc: Global, brackets: u32) -> Result<String, AllocError> {
 #[test]
 fn the_limit_of_nesting(rt: HostRuntime) -> Result<(), NoMem> {
     let within = bracketed(rt.alloc(), 99)?;
-    let kept = answers(rt.alloc(), &GOOD, within.as_bytes(), TRANSLATE, 30, LATER.as_bytes())?;
+    let kept = answers(
+        rt.alloc(),
+        &GOOD,
+        within.as_bytes(),
+        TRANSLATE,
+        30,
+        LATER.as_bytes(),
+    )?;
     assert!(rt; kept);
     let above = bracketed(rt.alloc(), 100)?;
     let line = b"refused 10 limit nesting 101\n";
