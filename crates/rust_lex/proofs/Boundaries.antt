@@ -20,10 +20,10 @@ use Rattle.rust_lex.specs.Numbers.{is_number, are_digits, base_of, prefix_length
 use Rattle.rust_lex.specs.Punctuation.{is_mark, is_single, is_double, is_triple, single_marks, double_marks, triple_marks}
 use Rattle.rust_lex.specs.Comments.{Closes, here, nested, other}
 use Rattle.rust_lex.specs.Lexing.{is_form, is_string, closes_string}
-use Rattle.rust_lex.proofs.Tests.{by_test, and_left, and_right, and_both, or_cases, clash, same_bytes}
-use Rattle.rust_lex.proofs.Fronting.{front_back, all_front}
-use Rattle.rust_lex.proofs.Naming.{spelled}
-use Rattle.rust_lex.proofs.Suffixes.{named_word}
+use Rattle.rust_lex.proofs.TestLemmas.{by_test, and_left, and_right, and_both, or_cases, clash, same_bytes}
+use Rattle.rust_lex.proofs.FrontLemmas.{front_back, all_front}
+use Rattle.rust_lex.proofs.IdentifierLemmas.{spelled}
+use Rattle.rust_lex.proofs.SuffixLemmas.{named_word}
 
 abbrev pub is_low : ℕ → Bool
 is_low c = nat_lt c 128

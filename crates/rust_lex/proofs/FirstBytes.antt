@@ -17,8 +17,8 @@ use Rattle.rust_lex.specs.Identifiers.{is_identifier, starts_identifier}
 use Rattle.rust_lex.specs.Numbers.{is_number, base_of, after_prefix, is_digit_of, prefix_length}
 use Rattle.rust_lex.specs.Punctuation.{is_mark, is_single, is_double, is_triple, single_marks, double_marks, triple_marks}
 use Rattle.rust_lex.specs.Lexing.{is_form}
-use Rattle.rust_lex.proofs.Tests.{if_true, if_false, and_left, and_right, or_cases, clash, same_bytes}
-use Rattle.rust_lex.proofs.Naming.{spelled}
+use Rattle.rust_lex.proofs.TestLemmas.{if_true, if_false, and_left, and_right, or_cases, clash, same_bytes}
+use Rattle.rust_lex.proofs.IdentifierLemmas.{spelled}
 
 -- a byte that an identifier may begin with
 abbrev pub is_letter : ℕ → Bool

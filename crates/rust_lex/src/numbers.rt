@@ -131,7 +131,7 @@ fn suffix_length(suffix: Option<IntTy>) -> usize
 }
 
 /// The length of the integer that stands first in bytes that begin with a digit.
-#[tactic(auto, using(crate::proofs::Fronting::drop_front, crate::proofs::Fronting::front_length), unfolding(crate::specs::Scan::number_length))]
+#[tactic(auto, using(crate::proofs::FrontLemmas::drop_front, crate::proofs::FrontLemmas::front_length), unfolding(crate::specs::Scan::number_length))]
 pub(crate) fn number_length(after_dot: bool, bytes: &[u8]) -> usize
     ensures { result ≡ scan.number_length after_dot bytes.now }
 {
@@ -175,7 +175,7 @@ fn value_of(base: Base, digits: &[u8]) -> Option<u128>
 }
 
 /// The number that an integer's spelling means; None from 2^128 on.
-#[tactic(auto, using(crate::proofs::Fronting::take_front, crate::proofs::Fronting::front_length), unfolding(crate::specs::Numbers::number_value))]
+#[tactic(auto, using(crate::proofs::FrontLemmas::take_front, crate::proofs::FrontLemmas::front_length), unfolding(crate::specs::Numbers::number_value))]
 fn number_value(bytes: &[u8]) -> Option<u128>
     ensures { MatchOption result (2 ^ 128 ≤ spec.number_value bytes.now) (λ v. v ≡ spec.number_value bytes.now) }
 {
@@ -196,7 +196,7 @@ pub(crate) fn is_small(bytes: &[u8]) -> bool
 }
 
 /// Whether bytes are an integer's spelling.
-#[tactic(auto, using(crate::proofs::Fronting::drop_front, crate::proofs::Fronting::front_length), unfolding(crate::specs::Numbers::is_number))]
+#[tactic(auto, using(crate::proofs::FrontLemmas::drop_front, crate::proofs::FrontLemmas::front_length), unfolding(crate::specs::Numbers::is_number))]
 fn is_number(bytes: &[u8]) -> bool
     ensures { result ≡ spec.is_number bytes.now }
 {
@@ -219,7 +219,7 @@ fn is_suffix(bytes: &[u8]) -> bool
 }
 
 /// The suffix of an integer's spelling.
-#[tactic(auto, using(crate::proofs::Fronting::drop_front, crate::proofs::Fronting::front_length))]
+#[tactic(auto, using(crate::proofs::FrontLemmas::drop_front, crate::proofs::FrontLemmas::front_length))]
 fn suffix_of(bytes: &[u8]) -> Option<IntTy>
     ensures { result ≡ spec_words.int_named (spec.suffix_of bytes.now) }
 {

@@ -117,7 +117,7 @@ fn is_excluded_to_yield(w: &[u8]) -> bool
 }
 
 /// Whether a text is a word of the language.
-#[tactic(auto, using(crate::proofs::Grouped::word_parts))]
+#[tactic(auto, using(crate::proofs::WordLemmas::word_parts))]
 fn is_word(w: &[u8]) -> bool
     ensures { result ≡ spec.is_word w.now }
 {
@@ -125,7 +125,7 @@ fn is_word(w: &[u8]) -> bool
 }
 
 /// Whether a text is a word of Rust that the language leaves out.
-#[tactic(auto, using(crate::proofs::Grouped::excluded_parts))]
+#[tactic(auto, using(crate::proofs::WordLemmas::excluded_parts))]
 fn is_excluded(w: &[u8]) -> bool
     ensures { result ≡ spec.is_excluded w.now }
 {

@@ -2,3 +2,7 @@ pub mod Derivations
 pub mod Steps
 pub mod Stacks
 pub mod Conditions
+pub mod Reading
+pub mod Making
+pub mod Building
+pub mod Machine

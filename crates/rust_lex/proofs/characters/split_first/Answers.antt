@@ -1,7 +1,7 @@
 use Rattle.std.proofs.Common.{◌≡◌, ◌++◌, length, sym, ap, ◌∙◌, arith, length-append, chars, encode_utf8}
 use Rattle.std.proofs.lemmas.Str.{chars_past_char, chars-nil}
 use Rattle.std.proofs.lemmas.List.{nil_from_length}
-use Rattle.rust_lex.proofs.Stepping.{some_width}
+use Rattle.rust_lex.proofs.StepLemmas.{some_width}
 use Rattle.rust_lex.proofs.characters.split_first.Goals as goal
 
 pub returns-in-Some : goal.returns-in-Some

@@ -2,7 +2,7 @@ use Rattle.std.proofs.Common.{◌≡◌, ◌∙◌, sym, ap, arith, drop, length
 use Rattle.std.proofs.lemmas.List.{drop-drop}
 use Rattle.rust_lex.specs.Characters.{begins_two}
 use Rattle.rust_lex.specs.Scan.{after_comment}
-use Rattle.rust_lex.proofs.Closing.{on, open_turn, other_turn, close_turn, on_less, none_left}
+use Rattle.rust_lex.proofs.CommentLemmas.{on, open_turn, other_turn, close_turn, on_less, none_left}
 use Rattle.rust_lex.proofs.comments.comment_end.Goals as goal
 
 pub loop-at-preserved-then-begins_two : goal.loop-at-preserved-then-begins_two

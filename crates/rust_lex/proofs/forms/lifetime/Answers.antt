@@ -1,6 +1,6 @@
 use Rattle.std.proofs.Common.{◌≡◌, ◌∙◌, sym, arith, Some}
 use Rattle.rust_lex.specs.Scan.{lifetime_length}
-use Rattle.rust_lex.proofs.Founding.{quote_boundary, lifetime_within}
+use Rattle.rust_lex.proofs.LongestSlices.{quote_boundary, lifetime_within}
 use Rattle.rust_lex.proofs.forms.lifetime.Goals as goal
 
 pub skip-requires : goal.skip-requires

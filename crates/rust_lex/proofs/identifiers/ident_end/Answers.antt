@@ -1,6 +1,6 @@
 use Rattle.std.proofs.Common.{◌≡◌, ◌∙◌, sym, ap, subst, arith, drop, Some, None, IsUtf8}
 use Rattle.rust_lex.specs.Scan.{identifier_length}
-use Rattle.rust_lex.proofs.Naming.{end_found, end_none}
+use Rattle.rust_lex.proofs.IdentifierLemmas.{end_found, end_none}
 use Rattle.rust_lex.proofs.identifiers.ident_end.Goals as goal
 
 pub overflow_add-result : goal.overflow_add-result

@@ -1,6 +1,6 @@
 use Rattle.std.proofs.Common.{◌∙◌, ap, ◌==◌, ◌&&◌}
 use Rattle.rust_lex.specs.Characters.{begins}
-use Rattle.rust_lex.proofs.Naming.{lone_test}
+use Rattle.rust_lex.proofs.IdentifierLemmas.{lone_test}
 use Rattle.rust_lex.proofs.identifiers.is_underscore.Goals as goal
 
 pub returns : goal.returns

@@ -1,4 +1,4 @@
-use Rattle.rust_lex.proofs.Founding.{quote_boundary}
+use Rattle.rust_lex.proofs.LongestSlices.{quote_boundary}
 use Rattle.rust_lex.proofs.kinds.kind_of.Goals as goal
 
 pub skip-requires : goal.skip-requires

@@ -2,8 +2,8 @@ use Rattle.std.proofs.Common.{◌≡◌, ◌∙◌, sym, ap, arith, drop, take, 
 use Rattle.rust_lex.specs.declared.step.Step.TheVariants as S
 use Rattle.rust_lex.specs.Lexing as spec
 use Rattle.rust_lex.specs.Scan.{step}
-use Rattle.rust_lex.proofs.Reading.{reads_boundary, gap_turn, token_turn, end_turn, fault_turn, gap_far, token_far, fault_far}
-use Rattle.rust_lex.proofs.Slicing.{all_texts, are_in_text}
+use Rattle.rust_lex.proofs.LexingLemmas.{reads_boundary, gap_turn, token_turn, end_turn, fault_turn, gap_far, token_far, fault_far}
+use Rattle.rust_lex.proofs.SliceLemmas.{all_texts, are_in_text}
 use Rattle.rust_lex.proofs.lexer.lex.Goals as goal
 
 pub skip-rest-requires : goal.skip-rest-requires

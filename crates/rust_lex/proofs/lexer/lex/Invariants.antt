@@ -1,5 +1,5 @@
 use Rattle.std.proofs.Common.{length, ◌-◌}
-use Rattle.rust_lex.proofs.Reading.{Reads}
+use Rattle.rust_lex.proofs.LexingLemmas.{Reads}
 use Rattle.rust_lex.proofs.lexer.lex.Given as goal
 
 abbrev pub invariant-reading : goal.invariant-reading

@@ -2,7 +2,7 @@ use Rattle.std.proofs.Common.{◌≡◌, ◌∙◌, sym, ap, subst, true, take}
 use Rattle.std.specs.Prelude.{◌==◌}
 use Rattle.rust_lex.specs.Characters.{begins}
 use Rattle.rust_lex.specs.Lexing.{is_form, IsLongest}
-use Rattle.rust_lex.proofs.Founding.{IsFound, is_found, lifetime_begins}
+use Rattle.rust_lex.proofs.LongestSlices.{IsFound, is_found, lifetime_begins}
 use Rattle.rust_lex.proofs.Boundaries.{form_boundary}
 use Rattle.rust_lex.proofs.lexer.token.Goals as goal
 

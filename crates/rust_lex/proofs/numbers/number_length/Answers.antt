@@ -1,6 +1,6 @@
 use Rattle.std.proofs.Common.{◌∙◌, ap, arith, length, length-drop}
 use Rattle.rust_lex.specs.Numbers.{goes_on}
-use Rattle.rust_lex.proofs.Fronting.{front_length}
+use Rattle.rust_lex.proofs.FrontLemmas.{front_length}
 use Rattle.rust_lex.proofs.numbers.number_length.Goals as goal
 
 pub overflow_add-result-2 : goal.overflow_add-result-2

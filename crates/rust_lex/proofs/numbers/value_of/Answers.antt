@@ -1,6 +1,6 @@
 use Rattle.std.proofs.Common.{◌^◌}
 use Rattle.rust_lex.specs.Numbers.{radix}
-use Rattle.rust_lex.proofs.Values.{past_limit, radix_some}
+use Rattle.rust_lex.proofs.ValueLemmas.{past_limit, radix_some}
 use Rattle.rust_lex.proofs.numbers.value_of.Goals as goal
 
 pub returns-in_default : goal.returns-in_default

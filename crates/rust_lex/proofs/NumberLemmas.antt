@@ -12,9 +12,9 @@ use Rattle.rust_lex.specs.Characters.{begins, front, back}
 use Rattle.rust_lex.specs.Words.{int_types, int_word}
 use Rattle.rust_lex.specs.Numbers.{base_of, prefix_length, after_prefix, is_digit_of, goes_on, is_suffix, is_number, are_digits}
 use Rattle.rust_lex.specs.Scan.{suffix_among, suffix_length, number_length}
-use Rattle.rust_lex.proofs.Tests.{choose, if_true, if_false, and_left, and_right, and_both, and_false, begins_take, split}
-use Rattle.rust_lex.proofs.Fronting.{front_back, front_length, all_front, begins_back, front_all, back_all, front_longest, front_inside, back_inside, whole_front, take_front}
-use Rattle.rust_lex.proofs.Suffixes.{suffix_counted, suffix_begins, word_is_suffix}
+use Rattle.rust_lex.proofs.TestLemmas.{choose, if_true, if_false, and_left, and_right, and_both, and_false, begins_take, split}
+use Rattle.rust_lex.proofs.FrontLemmas.{front_back, front_length, all_front, begins_back, front_all, back_all, front_longest, front_inside, back_inside, whole_front, take_front}
+use Rattle.rust_lex.proofs.SuffixLemmas.{suffix_counted, suffix_begins, word_is_suffix}
 
 -- a decimal digit is one of every reading
 pub decimal_digit : (c : ℕ) → is_ascii_digit c ≡ true → is_digit_of Decimal c ≡ true

@@ -12,8 +12,8 @@ use Rattle.unicode_ident.proofs.IdentLemmas.{is_xid_start-is_xid_continue, is_xi
 use Rattle.rust_lex.specs.Characters.{begins, front, back}
 use Rattle.rust_lex.specs.Identifiers.{starts_identifier, are_identifier, is_identifier, IsIdentifierEnd, NoIdentifier}
 use Rattle.rust_lex.specs.Scan.{identifier_length, length_of}
-use Rattle.rust_lex.proofs.Tests.{by_test, if_true, and_left, and_right, and_both, or_cases, clash, same_bytes, split, some_same, not_true}
-use Rattle.rust_lex.proofs.Fronting.{front_back, all_front, front_append}
+use Rattle.rust_lex.proofs.TestLemmas.{by_test, if_true, and_left, and_right, and_both, or_cases, clash, same_bytes, split, some_same, not_true}
+use Rattle.rust_lex.proofs.FrontLemmas.{front_back, all_front, front_append}
 
 -- what may begin an identifier may go on one
 pub start_continues : (c : ℕ) → starts_identifier c ≡ true → is_xid_continue c ≡ true

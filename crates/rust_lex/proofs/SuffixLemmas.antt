@@ -6,7 +6,7 @@ use Rattle.aen_base.specs.declared.int_ty.IntTy.TheVariants.{U8, U16, U32, U64, 
 use Rattle.rust_lex.specs.Words.{int_types, int_word, int_named, int_among}
 use Rattle.rust_lex.specs.Numbers.{is_suffix}
 use Rattle.rust_lex.specs.Scan.{begins_word, suffix_among, suffix_length}
-use Rattle.rust_lex.proofs.Tests.{by_test, same_bytes, some_same}
+use Rattle.rust_lex.proofs.TestLemmas.{by_test, same_bytes, some_same}
 
 among_word : (w : List ℕ) (ts : List IntTy) (t : IntTy) → int_among w ts ≡ Some t → w ≡ int_word t
 among_word w [] t h = absurd cc

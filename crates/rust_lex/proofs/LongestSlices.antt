@@ -13,11 +13,11 @@ use Rattle.rust_lex.specs.Identifiers.{is_identifier, is_lifetime}
 use Rattle.rust_lex.specs.Punctuation.{is_mark}
 use Rattle.rust_lex.specs.Lexing.{is_form, is_string, closes_string, IsLongest}
 use Rattle.rust_lex.specs.Scan.{Found, found, of_form, or_mark, or_underscore, before_rest, after_string, identifier_length, lifetime_length, mark_length, number_length}
-use Rattle.rust_lex.proofs.Tests.{by_test, choose, and_left, and_right, and_both, or_cases, clash, not_true, some_same, or_true}
-use Rattle.rust_lex.proofs.Strings.{Stands, stands_count, string_ended, string_found}
-use Rattle.rust_lex.proofs.Digits.{number_longest, number_is, digits_longest, digits_are}
-use Rattle.rust_lex.proofs.Naming.{IsFoundName, name_found, name_none}
-use Rattle.rust_lex.proofs.Longest.{mark_found, mark_none}
+use Rattle.rust_lex.proofs.TestLemmas.{by_test, choose, and_left, and_right, and_both, or_cases, clash, not_true, some_same, or_true}
+use Rattle.rust_lex.proofs.StringLemmas.{Stands, stands_count, string_ended, string_found}
+use Rattle.rust_lex.proofs.NumberLemmas.{number_longest, number_is, digits_longest, digits_are}
+use Rattle.rust_lex.proofs.IdentifierLemmas.{IsFoundName, name_found, name_none}
+use Rattle.rust_lex.proofs.MarkLemmas.{mark_found, mark_none}
 use Rattle.rust_lex.proofs.FirstBytes.{fits_first, first_fits, is_letter, is_mark_byte, no_form, form_is, form_of, underscore_mark}
 
 abbrev pub IsFound : Bool → List ℕ → Found → Type 0

@@ -3,7 +3,7 @@ use Rattle.std.proofs.Common.{◌≡◌, refl, ap, sym, ◌∙◌, ℕ, zero, su
 use Rattle.std.specs.Prelude.{◌&&◌, ◌==◌, bytes_eq}
 use Rattle.rust_lex.specs.Lexing.{closes_string}
 use Rattle.rust_lex.specs.Scan.{after_string}
-use Rattle.rust_lex.proofs.Tests.{by_test, if_true, if_false}
+use Rattle.rust_lex.proofs.TestLemmas.{by_test, if_true, if_false}
 
 -- after k bytes this rest stands
 pub record Stands (k : ℕ) (text rest : List ℕ) : Type 0 where

@@ -3,7 +3,7 @@ use Rattle.std.proofs.Common.{◌≡◌, refl, ap, sym, ◌∙◌, ℕ, zero, su
 use Rattle.std.specs.Prelude.{if◌then◌else◌, ◌&&◌}
 use Rattle.std.specs.List.{list_all}
 use Rattle.rust_lex.specs.Characters.{begins, front, back}
-use Rattle.rust_lex.proofs.Tests.{and_left, and_right}
+use Rattle.rust_lex.proofs.TestLemmas.{and_left, and_right}
 
 front_back_by : (b : Bool) (p : ℕ → Bool) (c : ℕ) (cs : List ℕ) → front p cs ++ back p cs ≡ cs →
     (if b then c ∷ front p cs else []) ++ (if b then back p cs else c ∷ cs) ≡ c ∷ cs

@@ -4,7 +4,7 @@ use Rattle.std.specs.Prelude.{nat_le, if◌then◌else◌}
 use Rattle.std.proofs.lemmas.Bool.Decides.{nat_tests}
 use Rattle.rust_lex.specs.Punctuation.{is_mark}
 use Rattle.rust_lex.specs.Scan.{is_mark_of, mark_length}
-use Rattle.rust_lex.proofs.Tests.{by_test, and_left, and_right, and_both, clash, not_true, some_same}
+use Rattle.rust_lex.proofs.TestLemmas.{by_test, and_left, and_right, and_both, clash, not_true, some_same}
 
 le_test : (m n : ℕ) → m ≤ n → nat_le m n ≡ true
 le_test m n h = grind (arith, nat_tests)

@@ -15,12 +15,12 @@ use Rattle.rust_lex.specs.Characters.{begins, front, is_white, in_line}
 use Rattle.rust_lex.specs.Comments.{Closes, Gap, white, line, block, begins_comment, begins_line_comment, begins_block_comment}
 use Rattle.rust_lex.specs.Lexing.{is_form, is_string, kind_of, IsLongest, IsToken, IsFault, string, comment, malformed, stray}
 use Rattle.rust_lex.specs.Scan.{Found, found, step, step_found, step_comment, before_rest, after_comment, first_width, of_kind}
-use Rattle.rust_lex.proofs.Tests.{choose, if_true, if_false, and_left, and_right, clash, not_true, or_left, or_right, some_same}
-use Rattle.rust_lex.proofs.Fronting.{drop_front, front_length, all_front, begins_back, front_all, take_front}
-use Rattle.rust_lex.proofs.Strings.{Stands}
-use Rattle.rust_lex.proofs.Closing.{read_through, comment_comes, closes_behind}
+use Rattle.rust_lex.proofs.TestLemmas.{choose, if_true, if_false, and_left, and_right, clash, not_true, or_left, or_right, some_same}
+use Rattle.rust_lex.proofs.FrontLemmas.{drop_front, front_length, all_front, begins_back, front_all, take_front}
+use Rattle.rust_lex.proofs.StringLemmas.{Stands}
+use Rattle.rust_lex.proofs.CommentLemmas.{read_through, comment_comes, closes_behind}
 use Rattle.rust_lex.proofs.FirstBytes.{fits_first, first_fits, no_form}
-use Rattle.rust_lex.proofs.Founding.{IsFound, is_found, by_first, only_quoted, none_of, longest_found, none_found}
+use Rattle.rust_lex.proofs.LongestSlices.{IsFound, is_found, by_first, only_quoted, none_of, longest_found, none_found}
 
 abbrev pub IsStep : Bool → List ℕ → Step → Type 0
 IsStep dot text S.End = text ≡ []

@@ -19,10 +19,10 @@ use Rattle.rust_lex.specs.Identifiers.{is_named, name_of, word_kind, lifetime_ki
 use Rattle.rust_lex.specs.Numbers.{is_number, are_digits, is_small, base_of, prefix_length, goes_on, is_digit_of, is_suffix, integer_of}
 use Rattle.rust_lex.specs.Lexing.{is_form, kind_of, IsToken, token, is_dot, Lexes, ends, gap, next, fault, AreTokens}
 use Rattle.rust_lex.specs.Slices.{IsTokenOf, AreInText}
-use Rattle.rust_lex.proofs.Tests.{by_test, if_true, and_left, and_right, and_both, and_false, some_same}
-use Rattle.rust_lex.proofs.Fronting.{back_all}
-use Rattle.rust_lex.proofs.Digits.{decimal_digit, number_in}
-use Rattle.rust_lex.proofs.Reading.{gap_advances, token_advances}
+use Rattle.rust_lex.proofs.TestLemmas.{by_test, if_true, and_left, and_right, and_both, and_false, some_same}
+use Rattle.rust_lex.proofs.FrontLemmas.{back_all}
+use Rattle.rust_lex.proofs.NumberLemmas.{decimal_digit, number_in}
+use Rattle.rust_lex.proofs.LexingLemmas.{gap_advances, token_advances}
 
 -- ---- an integer has a value
 

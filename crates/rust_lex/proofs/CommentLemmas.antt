@@ -6,8 +6,8 @@ use Rattle.std.proofs.lemmas.Bool.{eqb-true}
 use Rattle.rust_lex.specs.Characters.{begins}
 use Rattle.rust_lex.specs.Comments.{Closes, here, nested, other, begins_block_comment, ends_block_comment}
 use Rattle.rust_lex.specs.Scan.{after_comment, closed}
-use Rattle.rust_lex.proofs.Tests.{by_test, if_true, if_false, and_left, and_right, clash}
-use Rattle.rust_lex.proofs.Strings.{Stands, stands_more}
+use Rattle.rust_lex.proofs.TestLemmas.{by_test, if_true, if_false, and_left, and_right, clash}
+use Rattle.rust_lex.proofs.StringLemmas.{Stands, stands_more}
 
 -- what is read on where so many comments are open behind a closed one
 abbrev pub on : ℕ → List ℕ → Option (List ℕ)

@@ -14,10 +14,10 @@ use Rattle.rust_lex.specs.Characters.{begins, in_line}
 use Rattle.rust_lex.specs.Comments.{Closes, Gap, white, line, block, begins_line_comment, begins_block_comment}
 use Rattle.rust_lex.specs.Lexing.{IsToken, IsFault, string, comment, malformed, stray, span, token, is_dot, Lexes, ends, gap, next, fault, AreTokens, NoOthers}
 use Rattle.rust_lex.specs.Scan.{step}
-use Rattle.rust_lex.proofs.Tests.{clash, and_left, and_right}
+use Rattle.rust_lex.proofs.TestLemmas.{clash, and_left, and_right}
 use Rattle.rust_lex.proofs.FirstBytes.{no_form}
 use Rattle.rust_lex.proofs.Boundaries.{form_boundary, last_slash}
-use Rattle.rust_lex.proofs.Stepping.{IsStep, step_right, gap_only, token_only, fault_only}
+use Rattle.rust_lex.proofs.StepLemmas.{IsStep, step_right, gap_only, token_only, fault_only}
 
 -- ---- a step goes on inside the text
 
