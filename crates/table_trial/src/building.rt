@@ -78,3 +78,29 @@ fn take_more(values: &mut List<Item<Lexeme, Value>>) -> List<u32>
         _ => unreachable!(),
     }
 }
+
+/// Further names: those of a term, and further ones, which stand in reverse.
+pub(crate) fn one_more(values: &mut List<Item<Lexeme, Value>>) -> Result<Value, NoMem>
+    requires { CanBuild N.More 1 (reverse values.old) }
+    ensures { IfOk result (λ it. IsBuilt N.More 1 (reverse values.old) it (reverse values.new)) }
+{
+    let mut more = take_more(values);
+    let mut names = take_names(values);
+    let _plus = take_token(values);
+    while let Some(name) = names.pop() {
+        more.push(name)?;
+    }
+    Ok(Value::More(more))
+}
+
+/// A name.
+pub(crate) fn name(alloc: Global, values: &mut List<Item<Lexeme, Value>>) -> Result<Value, NoMem>
+    requires { CanBuild N.Term 0 (reverse values.old) }
+    ensures { IfOk result (λ it. IsBuilt N.Term 0 (reverse values.old) it (reverse values.new)) }
+{
+    let mut names = List::new(alloc);
+    if let Lexeme::Name(number) = take_token(values) {
+        names.push(number)?;
+    }
+    Ok(Value::Names(names))
+}

@@ -2,8 +2,11 @@
 #![tactic(auto)]
 
 mod building;
+mod builds;
 mod grammar;
 mod lexeme;
+#[cfg(test)]
+mod tests;
 mod value;
 
 pub use grammar::Sums;
