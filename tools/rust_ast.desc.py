@@ -112,10 +112,11 @@ def expressions(resolved):
     called = ["Callee", "Turbos"] if resolved else ["Path", "Turbo"]
     built = ["TypeId", "ℕ", "Turbos"] if resolved else ["Ident", "Turbo"]
     numbered = ["ℕ"] if resolved else []
+    let = [] if resolved else [("let_branch", ["Span", "Pat", "Expr", "Expr", "Expr"])]
     return {
         **callee,
         "Expr": [("number", ["Span", "Bool", "Magnitude", "Suffix"]), ("truth", ["Span", "Bool"]), ("tuple", ["Span", "Exprs"]),
-                 ("inner", ["Block"]), ("branch", ["Span", "Expr", "Block", "Expr"]), ("select", ["Span", "Expr", "Arms"]),
+                 ("inner", ["Block"]), ("branch", ["Span", "Expr", "Block", "Expr"]), ("select", ["Span", "Expr", "Arms"])] + let + [
                  ("forever", ["Span"] + numbered + ["Bool", "Block"]), ("panic", ["Span"]), value,
                  ("call", ["Span"] + called + ["Exprs"]), ("literal", ["Span"] + built + ["Inits"]),
                  ("field", ["Span", "Expr", "Span", "Name"]), ("minus", ["Span", "Expr"]), ("negation", ["Span", "Expr"]),
@@ -136,6 +137,7 @@ EXPR_DOCS = {
     "tuple": "A tuple of these parts, or `()`.", "inner": "A block.",
     "branch": "`if`: the condition, what is done where it holds, and where not.",
     "select": "`match`: the scrutinee, and the arms in order.",
+    "let_branch": "`if let`: the pattern, the scrutinee, what is done where it matches, and where not.",
     "panic": "`panic!`.", "variable": "A variable, by its number.", "path": "A path that isn't called.",
     "call": "A call of a function, or of a constructor whose parts stand by place.",
     "literal": "A constructor whose parts stand by name in braces: each name with its span, and its value.",

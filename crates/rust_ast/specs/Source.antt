@@ -35,6 +35,7 @@ mutual
     inner : Block → Expr
     branch : Span → Expr → Block → Expr → Expr
     select : Span → Expr → Arms → Expr
+    let_branch : Span → Pat → Expr → Expr → Expr → Expr
     forever : Span → Bool → Block → Expr
     panic : Span → Expr
     path : Span → Path → Expr
@@ -166,6 +167,7 @@ abbrev mutual
   nodes_expr (inner a0) = nodes_block a0 + 1
   nodes_expr (branch a0 a1 a2 a3) = nodes_expr a1 + nodes_block a2 + nodes_expr a3 + 1
   nodes_expr (select a0 a1 a2) = nodes_expr a1 + nodes_arms a2 + 1
+  nodes_expr (let_branch a0 a1 a2 a3 a4) = nodes_expr a2 + nodes_expr a3 + nodes_expr a4 + 1
   nodes_expr (forever a0 a1 a2) = nodes_block a2 + 1
   nodes_expr (panic a0) = 1
   nodes_expr (path a0 a1) = 1
@@ -222,26 +224,27 @@ abbrev mutual
   stored_expr (inner a0) = gcons (gnum 3) (gcons (stored_block a0) gnil)
   stored_expr (branch a0 a1 a2 a3) = gcons (gnum 4) (gcons (span_row.the_row.coded.code a0) (gcons (stored_expr a1) (gcons (stored_block a2) (gcons (stored_expr a3) gnil))))
   stored_expr (select a0 a1 a2) = gcons (gnum 5) (gcons (span_row.the_row.coded.code a0) (gcons (stored_expr a1) (gcons (stored_arms a2) gnil)))
-  stored_expr (forever a0 a1 a2) = gcons (gnum 6) (gcons (span_row.the_row.coded.code a0) (gcons (coded_bool.code a1) (gcons (stored_block a2) gnil)))
-  stored_expr (panic a0) = gcons (gnum 7) (gcons (span_row.the_row.coded.code a0) gnil)
-  stored_expr (path a0 a1) = gcons (gnum 8) (gcons (span_row.the_row.coded.code a0) (gcons (coded_path.code a1) gnil))
-  stored_expr (call a0 a1 a2 a3) = gcons (gnum 9) (gcons (span_row.the_row.coded.code a0) (gcons (coded_path.code a1) (gcons (coded_turbo.code a2) (gcons (stored_exprs a3) gnil))))
-  stored_expr (literal a0 a1 a2 a3) = gcons (gnum 10) (gcons (span_row.the_row.coded.code a0) (gcons (ident_row.the_row.coded.code a1) (gcons (coded_turbo.code a2) (gcons (stored_inits a3) gnil))))
-  stored_expr (field a0 a1 a2 a3) = gcons (gnum 11) (gcons (span_row.the_row.coded.code a0) (gcons (stored_expr a1) (gcons (span_row.the_row.coded.code a2) (gcons ((coded_list coded_ℕ).code a3) gnil))))
-  stored_expr (minus a0 a1) = gcons (gnum 12) (gcons (span_row.the_row.coded.code a0) (gcons (stored_expr a1) gnil))
-  stored_expr (negation a0 a1) = gcons (gnum 13) (gcons (span_row.the_row.coded.code a0) (gcons (stored_expr a1) gnil))
-  stored_expr (deref a0 a1) = gcons (gnum 14) (gcons (span_row.the_row.coded.code a0) (gcons (stored_expr a1) gnil))
-  stored_expr (borrow a0 a1 a2) = gcons (gnum 15) (gcons (span_row.the_row.coded.code a0) (gcons (coded_bool.code a1) (gcons (stored_expr a2) gnil)))
-  stored_expr (binary a0 a1 a2 a3) = gcons (gnum 16) (gcons (span_row.the_row.coded.code a0) (gcons (binop_row.the_row.coded.code a1) (gcons (stored_expr a2) (gcons (stored_expr a3) gnil))))
-  stored_expr (compare a0 a1 a2 a3) = gcons (gnum 17) (gcons (span_row.the_row.coded.code a0) (gcons (cmpop_row.the_row.coded.code a1) (gcons (stored_expr a2) (gcons (stored_expr a3) gnil))))
-  stored_expr (both a0 a1 a2) = gcons (gnum 18) (gcons (span_row.the_row.coded.code a0) (gcons (stored_expr a1) (gcons (stored_expr a2) gnil)))
-  stored_expr (either a0 a1 a2) = gcons (gnum 19) (gcons (span_row.the_row.coded.code a0) (gcons (stored_expr a1) (gcons (stored_expr a2) gnil)))
-  stored_expr (cast a0 a1 a2) = gcons (gnum 20) (gcons (span_row.the_row.coded.code a0) (gcons (stored_expr a1) (gcons (intty_row.the_row.coded.code a2) gnil)))
-  stored_expr (assign a0 a1 a2) = gcons (gnum 21) (gcons (span_row.the_row.coded.code a0) (gcons (stored_expr a1) (gcons (stored_expr a2) gnil)))
-  stored_expr (update a0 a1 a2 a3) = gcons (gnum 22) (gcons (span_row.the_row.coded.code a0) (gcons (binop_row.the_row.coded.code a1) (gcons (stored_expr a2) (gcons (stored_expr a3) gnil))))
-  stored_expr (give a0 a1) = gcons (gnum 23) (gcons (span_row.the_row.coded.code a0) (gcons (stored_maybeexpr a1) gnil))
-  stored_expr (leave a0 a1) = gcons (gnum 24) (gcons (span_row.the_row.coded.code a0) (gcons (stored_maybeexpr a1) gnil))
-  stored_expr (go_on a0) = gcons (gnum 25) (gcons (span_row.the_row.coded.code a0) gnil)
+  stored_expr (let_branch a0 a1 a2 a3 a4) = gcons (gnum 6) (gcons (span_row.the_row.coded.code a0) (gcons (coded_pat.code a1) (gcons (stored_expr a2) (gcons (stored_expr a3) (gcons (stored_expr a4) gnil)))))
+  stored_expr (forever a0 a1 a2) = gcons (gnum 7) (gcons (span_row.the_row.coded.code a0) (gcons (coded_bool.code a1) (gcons (stored_block a2) gnil)))
+  stored_expr (panic a0) = gcons (gnum 8) (gcons (span_row.the_row.coded.code a0) gnil)
+  stored_expr (path a0 a1) = gcons (gnum 9) (gcons (span_row.the_row.coded.code a0) (gcons (coded_path.code a1) gnil))
+  stored_expr (call a0 a1 a2 a3) = gcons (gnum 10) (gcons (span_row.the_row.coded.code a0) (gcons (coded_path.code a1) (gcons (coded_turbo.code a2) (gcons (stored_exprs a3) gnil))))
+  stored_expr (literal a0 a1 a2 a3) = gcons (gnum 11) (gcons (span_row.the_row.coded.code a0) (gcons (ident_row.the_row.coded.code a1) (gcons (coded_turbo.code a2) (gcons (stored_inits a3) gnil))))
+  stored_expr (field a0 a1 a2 a3) = gcons (gnum 12) (gcons (span_row.the_row.coded.code a0) (gcons (stored_expr a1) (gcons (span_row.the_row.coded.code a2) (gcons ((coded_list coded_ℕ).code a3) gnil))))
+  stored_expr (minus a0 a1) = gcons (gnum 13) (gcons (span_row.the_row.coded.code a0) (gcons (stored_expr a1) gnil))
+  stored_expr (negation a0 a1) = gcons (gnum 14) (gcons (span_row.the_row.coded.code a0) (gcons (stored_expr a1) gnil))
+  stored_expr (deref a0 a1) = gcons (gnum 15) (gcons (span_row.the_row.coded.code a0) (gcons (stored_expr a1) gnil))
+  stored_expr (borrow a0 a1 a2) = gcons (gnum 16) (gcons (span_row.the_row.coded.code a0) (gcons (coded_bool.code a1) (gcons (stored_expr a2) gnil)))
+  stored_expr (binary a0 a1 a2 a3) = gcons (gnum 17) (gcons (span_row.the_row.coded.code a0) (gcons (binop_row.the_row.coded.code a1) (gcons (stored_expr a2) (gcons (stored_expr a3) gnil))))
+  stored_expr (compare a0 a1 a2 a3) = gcons (gnum 18) (gcons (span_row.the_row.coded.code a0) (gcons (cmpop_row.the_row.coded.code a1) (gcons (stored_expr a2) (gcons (stored_expr a3) gnil))))
+  stored_expr (both a0 a1 a2) = gcons (gnum 19) (gcons (span_row.the_row.coded.code a0) (gcons (stored_expr a1) (gcons (stored_expr a2) gnil)))
+  stored_expr (either a0 a1 a2) = gcons (gnum 20) (gcons (span_row.the_row.coded.code a0) (gcons (stored_expr a1) (gcons (stored_expr a2) gnil)))
+  stored_expr (cast a0 a1 a2) = gcons (gnum 21) (gcons (span_row.the_row.coded.code a0) (gcons (stored_expr a1) (gcons (intty_row.the_row.coded.code a2) gnil)))
+  stored_expr (assign a0 a1 a2) = gcons (gnum 22) (gcons (span_row.the_row.coded.code a0) (gcons (stored_expr a1) (gcons (stored_expr a2) gnil)))
+  stored_expr (update a0 a1 a2 a3) = gcons (gnum 23) (gcons (span_row.the_row.coded.code a0) (gcons (binop_row.the_row.coded.code a1) (gcons (stored_expr a2) (gcons (stored_expr a3) gnil))))
+  stored_expr (give a0 a1) = gcons (gnum 24) (gcons (span_row.the_row.coded.code a0) (gcons (stored_maybeexpr a1) gnil))
+  stored_expr (leave a0 a1) = gcons (gnum 25) (gcons (span_row.the_row.coded.code a0) (gcons (stored_maybeexpr a1) gnil))
+  stored_expr (go_on a0) = gcons (gnum 26) (gcons (span_row.the_row.coded.code a0) gnil)
 
   pub stored_stmt : Stmt → Gv
   stored_stmt (run a0 a1) = gcons (gnum 0) (gcons (stored_expr a0) (gcons (coded_bool.code a1) gnil))
@@ -287,6 +290,9 @@ Is_branch y = (a0 : Span) × ((a1 : Expr) × ((a2 : Block) × ((a3 : Expr) × (y
 
 abbrev Is_select : Expr → Type 0
 Is_select y = (a0 : Span) × ((a1 : Expr) × ((a2 : Arms) × (y ≡ select a0 a1 a2)))
+
+abbrev Is_let_branch : Expr → Type 0
+Is_let_branch y = (a0 : Span) × ((a1 : Pat) × ((a2 : Expr) × ((a3 : Expr) × ((a4 : Expr) × (y ≡ let_branch a0 a1 a2 a3 a4)))))
 
 abbrev Is_forever : Expr → Type 0
 Is_forever y = (a0 : Span) × ((a1 : Bool) × ((a2 : Block) × (y ≡ forever a0 a1 a2)))
@@ -355,27 +361,28 @@ Shape_expr (suc (suc zero)) y = Is_tuple y
 Shape_expr (suc (suc (suc zero))) y = Is_inner y
 Shape_expr (suc (suc (suc (suc zero)))) y = Is_branch y
 Shape_expr (suc (suc (suc (suc (suc zero))))) y = Is_select y
-Shape_expr (suc (suc (suc (suc (suc (suc zero)))))) y = Is_forever y
-Shape_expr (suc (suc (suc (suc (suc (suc (suc zero))))))) y = Is_panic y
-Shape_expr (suc (suc (suc (suc (suc (suc (suc (suc zero)))))))) y = Is_path y
-Shape_expr (suc (suc (suc (suc (suc (suc (suc (suc (suc zero))))))))) y = Is_call y
-Shape_expr (suc (suc (suc (suc (suc (suc (suc (suc (suc (suc zero)))))))))) y = Is_literal y
-Shape_expr (suc (suc (suc (suc (suc (suc (suc (suc (suc (suc (suc zero))))))))))) y = Is_field y
-Shape_expr (suc (suc (suc (suc (suc (suc (suc (suc (suc (suc (suc (suc zero)))))))))))) y = Is_minus y
-Shape_expr (suc (suc (suc (suc (suc (suc (suc (suc (suc (suc (suc (suc (suc zero))))))))))))) y = Is_negation y
-Shape_expr (suc (suc (suc (suc (suc (suc (suc (suc (suc (suc (suc (suc (suc (suc zero)))))))))))))) y = Is_deref y
-Shape_expr (suc (suc (suc (suc (suc (suc (suc (suc (suc (suc (suc (suc (suc (suc (suc zero))))))))))))))) y = Is_borrow y
-Shape_expr (suc (suc (suc (suc (suc (suc (suc (suc (suc (suc (suc (suc (suc (suc (suc (suc zero)))))))))))))))) y = Is_binary y
-Shape_expr (suc (suc (suc (suc (suc (suc (suc (suc (suc (suc (suc (suc (suc (suc (suc (suc (suc zero))))))))))))))))) y = Is_compare y
-Shape_expr (suc (suc (suc (suc (suc (suc (suc (suc (suc (suc (suc (suc (suc (suc (suc (suc (suc (suc zero)))))))))))))))))) y = Is_both y
-Shape_expr (suc (suc (suc (suc (suc (suc (suc (suc (suc (suc (suc (suc (suc (suc (suc (suc (suc (suc (suc zero))))))))))))))))))) y = Is_either y
-Shape_expr (suc (suc (suc (suc (suc (suc (suc (suc (suc (suc (suc (suc (suc (suc (suc (suc (suc (suc (suc (suc zero)))))))))))))))))))) y = Is_cast y
-Shape_expr (suc (suc (suc (suc (suc (suc (suc (suc (suc (suc (suc (suc (suc (suc (suc (suc (suc (suc (suc (suc (suc zero))))))))))))))))))))) y = Is_assign y
-Shape_expr (suc (suc (suc (suc (suc (suc (suc (suc (suc (suc (suc (suc (suc (suc (suc (suc (suc (suc (suc (suc (suc (suc zero)))))))))))))))))))))) y = Is_update y
-Shape_expr (suc (suc (suc (suc (suc (suc (suc (suc (suc (suc (suc (suc (suc (suc (suc (suc (suc (suc (suc (suc (suc (suc (suc zero))))))))))))))))))))))) y = Is_give y
-Shape_expr (suc (suc (suc (suc (suc (suc (suc (suc (suc (suc (suc (suc (suc (suc (suc (suc (suc (suc (suc (suc (suc (suc (suc (suc zero)))))))))))))))))))))))) y = Is_leave y
-Shape_expr (suc (suc (suc (suc (suc (suc (suc (suc (suc (suc (suc (suc (suc (suc (suc (suc (suc (suc (suc (suc (suc (suc (suc (suc (suc zero))))))))))))))))))))))))) y = Is_go_on y
-Shape_expr (suc (suc (suc (suc (suc (suc (suc (suc (suc (suc (suc (suc (suc (suc (suc (suc (suc (suc (suc (suc (suc (suc (suc (suc (suc (suc n)))))))))))))))))))))))))) y = ⊥
+Shape_expr (suc (suc (suc (suc (suc (suc zero)))))) y = Is_let_branch y
+Shape_expr (suc (suc (suc (suc (suc (suc (suc zero))))))) y = Is_forever y
+Shape_expr (suc (suc (suc (suc (suc (suc (suc (suc zero)))))))) y = Is_panic y
+Shape_expr (suc (suc (suc (suc (suc (suc (suc (suc (suc zero))))))))) y = Is_path y
+Shape_expr (suc (suc (suc (suc (suc (suc (suc (suc (suc (suc zero)))))))))) y = Is_call y
+Shape_expr (suc (suc (suc (suc (suc (suc (suc (suc (suc (suc (suc zero))))))))))) y = Is_literal y
+Shape_expr (suc (suc (suc (suc (suc (suc (suc (suc (suc (suc (suc (suc zero)))))))))))) y = Is_field y
+Shape_expr (suc (suc (suc (suc (suc (suc (suc (suc (suc (suc (suc (suc (suc zero))))))))))))) y = Is_minus y
+Shape_expr (suc (suc (suc (suc (suc (suc (suc (suc (suc (suc (suc (suc (suc (suc zero)))))))))))))) y = Is_negation y
+Shape_expr (suc (suc (suc (suc (suc (suc (suc (suc (suc (suc (suc (suc (suc (suc (suc zero))))))))))))))) y = Is_deref y
+Shape_expr (suc (suc (suc (suc (suc (suc (suc (suc (suc (suc (suc (suc (suc (suc (suc (suc zero)))))))))))))))) y = Is_borrow y
+Shape_expr (suc (suc (suc (suc (suc (suc (suc (suc (suc (suc (suc (suc (suc (suc (suc (suc (suc zero))))))))))))))))) y = Is_binary y
+Shape_expr (suc (suc (suc (suc (suc (suc (suc (suc (suc (suc (suc (suc (suc (suc (suc (suc (suc (suc zero)))))))))))))))))) y = Is_compare y
+Shape_expr (suc (suc (suc (suc (suc (suc (suc (suc (suc (suc (suc (suc (suc (suc (suc (suc (suc (suc (suc zero))))))))))))))))))) y = Is_both y
+Shape_expr (suc (suc (suc (suc (suc (suc (suc (suc (suc (suc (suc (suc (suc (suc (suc (suc (suc (suc (suc (suc zero)))))))))))))))))))) y = Is_either y
+Shape_expr (suc (suc (suc (suc (suc (suc (suc (suc (suc (suc (suc (suc (suc (suc (suc (suc (suc (suc (suc (suc (suc zero))))))))))))))))))))) y = Is_cast y
+Shape_expr (suc (suc (suc (suc (suc (suc (suc (suc (suc (suc (suc (suc (suc (suc (suc (suc (suc (suc (suc (suc (suc (suc zero)))))))))))))))))))))) y = Is_assign y
+Shape_expr (suc (suc (suc (suc (suc (suc (suc (suc (suc (suc (suc (suc (suc (suc (suc (suc (suc (suc (suc (suc (suc (suc (suc zero))))))))))))))))))))))) y = Is_update y
+Shape_expr (suc (suc (suc (suc (suc (suc (suc (suc (suc (suc (suc (suc (suc (suc (suc (suc (suc (suc (suc (suc (suc (suc (suc (suc zero)))))))))))))))))))))))) y = Is_give y
+Shape_expr (suc (suc (suc (suc (suc (suc (suc (suc (suc (suc (suc (suc (suc (suc (suc (suc (suc (suc (suc (suc (suc (suc (suc (suc (suc zero))))))))))))))))))))))))) y = Is_leave y
+Shape_expr (suc (suc (suc (suc (suc (suc (suc (suc (suc (suc (suc (suc (suc (suc (suc (suc (suc (suc (suc (suc (suc (suc (suc (suc (suc (suc zero)))))))))))))))))))))))))) y = Is_go_on y
+Shape_expr (suc (suc (suc (suc (suc (suc (suc (suc (suc (suc (suc (suc (suc (suc (suc (suc (suc (suc (suc (suc (suc (suc (suc (suc (suc (suc (suc n))))))))))))))))))))))))))) y = ⊥
 
 shape_expr : (y : Expr) → Shape_expr (num (head (stored_expr y))) y
 shape_expr (number a0 a1 a2 a3) = (a0, (a1, (a2, (a3, refl))))
@@ -384,6 +391,7 @@ shape_expr (tuple a0 a1) = (a0, (a1, refl))
 shape_expr (inner a0) = (a0, refl)
 shape_expr (branch a0 a1 a2 a3) = (a0, (a1, (a2, (a3, refl))))
 shape_expr (select a0 a1 a2) = (a0, (a1, (a2, refl)))
+shape_expr (let_branch a0 a1 a2 a3 a4) = (a0, (a1, (a2, (a3, (a4, refl)))))
 shape_expr (forever a0 a1 a2) = (a0, (a1, (a2, refl)))
 shape_expr (panic a0) = (a0, refl)
 shape_expr (path a0 a1) = (a0, (a1, refl))
@@ -423,64 +431,67 @@ as_branch g y p = subst (λ n. Shape_expr n y) (sym (ap (λ g. num (head g)) p))
 as_select : (g : Gv) (y : Expr) → gcons (gnum 5) g ≡ stored_expr y → Is_select y
 as_select g y p = subst (λ n. Shape_expr n y) (sym (ap (λ g. num (head g)) p)) (shape_expr y)
 
-as_forever : (g : Gv) (y : Expr) → gcons (gnum 6) g ≡ stored_expr y → Is_forever y
+as_let_branch : (g : Gv) (y : Expr) → gcons (gnum 6) g ≡ stored_expr y → Is_let_branch y
+as_let_branch g y p = subst (λ n. Shape_expr n y) (sym (ap (λ g. num (head g)) p)) (shape_expr y)
+
+as_forever : (g : Gv) (y : Expr) → gcons (gnum 7) g ≡ stored_expr y → Is_forever y
 as_forever g y p = subst (λ n. Shape_expr n y) (sym (ap (λ g. num (head g)) p)) (shape_expr y)
 
-as_panic : (g : Gv) (y : Expr) → gcons (gnum 7) g ≡ stored_expr y → Is_panic y
+as_panic : (g : Gv) (y : Expr) → gcons (gnum 8) g ≡ stored_expr y → Is_panic y
 as_panic g y p = subst (λ n. Shape_expr n y) (sym (ap (λ g. num (head g)) p)) (shape_expr y)
 
-as_path : (g : Gv) (y : Expr) → gcons (gnum 8) g ≡ stored_expr y → Is_path y
+as_path : (g : Gv) (y : Expr) → gcons (gnum 9) g ≡ stored_expr y → Is_path y
 as_path g y p = subst (λ n. Shape_expr n y) (sym (ap (λ g. num (head g)) p)) (shape_expr y)
 
-as_call : (g : Gv) (y : Expr) → gcons (gnum 9) g ≡ stored_expr y → Is_call y
+as_call : (g : Gv) (y : Expr) → gcons (gnum 10) g ≡ stored_expr y → Is_call y
 as_call g y p = subst (λ n. Shape_expr n y) (sym (ap (λ g. num (head g)) p)) (shape_expr y)
 
-as_literal : (g : Gv) (y : Expr) → gcons (gnum 10) g ≡ stored_expr y → Is_literal y
+as_literal : (g : Gv) (y : Expr) → gcons (gnum 11) g ≡ stored_expr y → Is_literal y
 as_literal g y p = subst (λ n. Shape_expr n y) (sym (ap (λ g. num (head g)) p)) (shape_expr y)
 
-as_field : (g : Gv) (y : Expr) → gcons (gnum 11) g ≡ stored_expr y → Is_field y
+as_field : (g : Gv) (y : Expr) → gcons (gnum 12) g ≡ stored_expr y → Is_field y
 as_field g y p = subst (λ n. Shape_expr n y) (sym (ap (λ g. num (head g)) p)) (shape_expr y)
 
-as_minus : (g : Gv) (y : Expr) → gcons (gnum 12) g ≡ stored_expr y → Is_minus y
+as_minus : (g : Gv) (y : Expr) → gcons (gnum 13) g ≡ stored_expr y → Is_minus y
 as_minus g y p = subst (λ n. Shape_expr n y) (sym (ap (λ g. num (head g)) p)) (shape_expr y)
 
-as_negation : (g : Gv) (y : Expr) → gcons (gnum 13) g ≡ stored_expr y → Is_negation y
+as_negation : (g : Gv) (y : Expr) → gcons (gnum 14) g ≡ stored_expr y → Is_negation y
 as_negation g y p = subst (λ n. Shape_expr n y) (sym (ap (λ g. num (head g)) p)) (shape_expr y)
 
-as_deref : (g : Gv) (y : Expr) → gcons (gnum 14) g ≡ stored_expr y → Is_deref y
+as_deref : (g : Gv) (y : Expr) → gcons (gnum 15) g ≡ stored_expr y → Is_deref y
 as_deref g y p = subst (λ n. Shape_expr n y) (sym (ap (λ g. num (head g)) p)) (shape_expr y)
 
-as_borrow : (g : Gv) (y : Expr) → gcons (gnum 15) g ≡ stored_expr y → Is_borrow y
+as_borrow : (g : Gv) (y : Expr) → gcons (gnum 16) g ≡ stored_expr y → Is_borrow y
 as_borrow g y p = subst (λ n. Shape_expr n y) (sym (ap (λ g. num (head g)) p)) (shape_expr y)
 
-as_binary : (g : Gv) (y : Expr) → gcons (gnum 16) g ≡ stored_expr y → Is_binary y
+as_binary : (g : Gv) (y : Expr) → gcons (gnum 17) g ≡ stored_expr y → Is_binary y
 as_binary g y p = subst (λ n. Shape_expr n y) (sym (ap (λ g. num (head g)) p)) (shape_expr y)
 
-as_compare : (g : Gv) (y : Expr) → gcons (gnum 17) g ≡ stored_expr y → Is_compare y
+as_compare : (g : Gv) (y : Expr) → gcons (gnum 18) g ≡ stored_expr y → Is_compare y
 as_compare g y p = subst (λ n. Shape_expr n y) (sym (ap (λ g. num (head g)) p)) (shape_expr y)
 
-as_both : (g : Gv) (y : Expr) → gcons (gnum 18) g ≡ stored_expr y → Is_both y
+as_both : (g : Gv) (y : Expr) → gcons (gnum 19) g ≡ stored_expr y → Is_both y
 as_both g y p = subst (λ n. Shape_expr n y) (sym (ap (λ g. num (head g)) p)) (shape_expr y)
 
-as_either : (g : Gv) (y : Expr) → gcons (gnum 19) g ≡ stored_expr y → Is_either y
+as_either : (g : Gv) (y : Expr) → gcons (gnum 20) g ≡ stored_expr y → Is_either y
 as_either g y p = subst (λ n. Shape_expr n y) (sym (ap (λ g. num (head g)) p)) (shape_expr y)
 
-as_cast : (g : Gv) (y : Expr) → gcons (gnum 20) g ≡ stored_expr y → Is_cast y
+as_cast : (g : Gv) (y : Expr) → gcons (gnum 21) g ≡ stored_expr y → Is_cast y
 as_cast g y p = subst (λ n. Shape_expr n y) (sym (ap (λ g. num (head g)) p)) (shape_expr y)
 
-as_assign : (g : Gv) (y : Expr) → gcons (gnum 21) g ≡ stored_expr y → Is_assign y
+as_assign : (g : Gv) (y : Expr) → gcons (gnum 22) g ≡ stored_expr y → Is_assign y
 as_assign g y p = subst (λ n. Shape_expr n y) (sym (ap (λ g. num (head g)) p)) (shape_expr y)
 
-as_update : (g : Gv) (y : Expr) → gcons (gnum 22) g ≡ stored_expr y → Is_update y
+as_update : (g : Gv) (y : Expr) → gcons (gnum 23) g ≡ stored_expr y → Is_update y
 as_update g y p = subst (λ n. Shape_expr n y) (sym (ap (λ g. num (head g)) p)) (shape_expr y)
 
-as_give : (g : Gv) (y : Expr) → gcons (gnum 23) g ≡ stored_expr y → Is_give y
+as_give : (g : Gv) (y : Expr) → gcons (gnum 24) g ≡ stored_expr y → Is_give y
 as_give g y p = subst (λ n. Shape_expr n y) (sym (ap (λ g. num (head g)) p)) (shape_expr y)
 
-as_leave : (g : Gv) (y : Expr) → gcons (gnum 24) g ≡ stored_expr y → Is_leave y
+as_leave : (g : Gv) (y : Expr) → gcons (gnum 25) g ≡ stored_expr y → Is_leave y
 as_leave g y p = subst (λ n. Shape_expr n y) (sym (ap (λ g. num (head g)) p)) (shape_expr y)
 
-as_go_on : (g : Gv) (y : Expr) → gcons (gnum 25) g ≡ stored_expr y → Is_go_on y
+as_go_on : (g : Gv) (y : Expr) → gcons (gnum 26) g ≡ stored_expr y → Is_go_on y
 as_go_on g y p = subst (λ n. Shape_expr n y) (sym (ap (λ g. num (head g)) p)) (shape_expr y)
 
 abbrev Is_run : Stmt → Type 0
@@ -648,6 +659,10 @@ mutual
       let w = as_select (gcons (span_row.the_row.coded.code a0) (gcons (stored_expr a1) (gcons (stored_arms a2) gnil))) y q in
       let p : stored_expr (select a0 a1 a2) ≡ stored_expr (select w.0 w.1.0 w.1.1.0) = q ∙ ap stored_expr (w.1.1.1) in
       (λ i. select (span_row.the_row.coded.inj a0 w.0 (ap (λ g. head (tail g)) p) i) (inj_expr a1 w.1.0 (ap (λ g. head (tail (tail g))) p) i) (inj_arms a2 w.1.1.0 (ap (λ g. head (tail (tail (tail g)))) p) i)) ∙ sym (w.1.1.1)
+  inj_expr (let_branch a0 a1 a2 a3 a4) y q =
+      let w = as_let_branch (gcons (span_row.the_row.coded.code a0) (gcons (coded_pat.code a1) (gcons (stored_expr a2) (gcons (stored_expr a3) (gcons (stored_expr a4) gnil))))) y q in
+      let p : stored_expr (let_branch a0 a1 a2 a3 a4) ≡ stored_expr (let_branch w.0 w.1.0 w.1.1.0 w.1.1.1.0 w.1.1.1.1.0) = q ∙ ap stored_expr (w.1.1.1.1.1) in
+      (λ i. let_branch (span_row.the_row.coded.inj a0 w.0 (ap (λ g. head (tail g)) p) i) (coded_pat.inj a1 w.1.0 (ap (λ g. head (tail (tail g))) p) i) (inj_expr a2 w.1.1.0 (ap (λ g. head (tail (tail (tail g)))) p) i) (inj_expr a3 w.1.1.1.0 (ap (λ g. head (tail (tail (tail (tail g))))) p) i) (inj_expr a4 w.1.1.1.1.0 (ap (λ g. head (tail (tail (tail (tail (tail g)))))) p) i)) ∙ sym (w.1.1.1.1.1)
   inj_expr (forever a0 a1 a2) y q =
       let w = as_forever (gcons (span_row.the_row.coded.code a0) (gcons (coded_bool.code a1) (gcons (stored_block a2) gnil))) y q in
       let p : stored_expr (forever a0 a1 a2) ≡ stored_expr (forever w.0 w.1.0 w.1.1.0) = q ∙ ap stored_expr (w.1.1.1) in

@@ -17,6 +17,7 @@ expr_of (Expr_.Tuple a0 a1) = t.tuple a0 (t.exprs a1)
 expr_of (Expr_.Inner a0) = t.inner a0
 expr_of (Expr_.Branch a0 a1 a2 a3) = t.branch a0 a1 a2 a3
 expr_of (Expr_.Select a0 a1 a2) = t.select a0 a1 (t.arms a2)
+expr_of (Expr_.LetBranch a0 a1 a2 a3 a4) = t.let_branch a0 a1 a2 a3 a4
 expr_of (Expr_.Forever a0 a1 a2) = t.forever a0 a1 a2
 expr_of (Expr_.Panic a0) = t.panic a0
 expr_of (Expr_.Path a0 a1) = t.path a0 a1

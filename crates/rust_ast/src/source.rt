@@ -28,6 +28,8 @@ pub enum ExprNode {
     Branch(Span, Boxed<Expr>, Boxed<Block>, Boxed<Expr>),
     /// `match`: the scrutinee, and the arms in order.
     Select(Span, Boxed<Expr>, List<(Pat, Expr)>),
+    /// `if let`: the pattern, the scrutinee, what is done where it matches, and where not.
+    LetBranch(Span, Pat, Boxed<Expr>, Boxed<Expr>, Boxed<Expr>),
     /// A loop: whether it is written with `while`, and its body.
     Forever(Span, bool, Boxed<Block>),
     /// `panic!`.
