@@ -156,6 +156,9 @@ LISTS = {
 }
 
 
+SUFFIX = {"Suffix": ("Option<IntTy>", "suffixes.suffix")}
+
+
 def type_tree(resolved):
     atom = ["Span", "IntTy"] + (["TypeId"] if resolved else ["Ident"])
     return dict(
@@ -173,8 +176,11 @@ def pattern_tree(resolved):
              "A declared type's variant, with the parts by name in braces." if resolved else "A path with parts by name in braces.")
     return dict(
         ABOUT="Patterns of a source" + (", names resolved" if resolved else "") + ' (LANGUAGE.md, "Grammar").',
-        HEAD=STD + uses(atom) + imports(module, [path]) + NAME + MAGNITUDE, ATOMS=atoms(atom, [path]), SORTS=patterns(resolved),
-        LISTS=LISTS["patterns"][resolved], OPTIONS={"Suffix": ["IntTy"]}, CODE={path: (path, None)},
+        HEAD=STD + uses(atom) + imports(module, [path])
+            + (NAME + MAGNITUDE if resolved else "use Rattle.rust_ast.specs.Patterns.{Suffix, coded_suffix, Name, Magnitude}\n"),
+        ATOMS=atoms(atom, [path] + ([] if resolved else ["Suffix"])), SORTS=patterns(resolved), LISTS=LISTS["patterns"][resolved],
+        OPTIONS={"Suffix": ["IntTy"]} if resolved else {}, CODE={path: (path, None), **({} if resolved else SUFFIX)},
+        VIEWS=[] if resolved else ["use Rattle.rust_ast.specs.Patterns as suffixes"],
         USE=("" if resolved else "use crate::Ident;\n") + f"use crate::{'written' if resolved else 'source_types'}::{path};\n"
             + ("use aen_base::{IntTy, List, Name, Span, TypeId};" if resolved else "use aen_base::{Boxed, IntTy, List, Name, Span};"),
         FALLS=falls("Patterns", "Name") if resolved else [],
@@ -186,20 +192,20 @@ def expression_tree(resolved):
     types_module, patterns_module = ("Written", "Patterns") if resolved else ("SourceTypes", "SourcePatterns")
     paths = ["Turbos"] if resolved else ["Turbo", "Path"]
     atom = ["Span", "IntTy", "BinOp", "CmpOp"] + (["TypeId", "Builtin"] if resolved else ["Ident"])
-    code = {"MaybeWritten": ("Option<Written>", "types.maybewritten"), "Pat": ("Pat", None), "Suffix": ("Option<IntTy>", "patterns.suffix"),
-            **{p: (p, None) for p in paths}}
+    code = {"MaybeWritten": ("Option<Written>", "types.maybewritten"), "Pat": ("Pat", None), **SUFFIX, **{p: (p, None) for p in paths}}
     ids = "BinOp, Boxed, Builtin, CmpOp, IntTy, List, Name, Span, TypeId" if resolved else "BinOp, Boxed, CmpOp, IntTy, List, Name, Span"
     modules = ("patterns", "written") if resolved else ("source_patterns", "source_types")
     return dict(
         ABOUT="Expressions, statements and blocks of a source" + (", names resolved" if resolved else "") + ' (LANGUAGE.md, "Grammar").',
         HEAD=STD + uses(atom) + imports(types_module, ["MaybeWritten"] + paths)
-            + f"use Rattle.rust_ast.specs.{patterns_module}.{{Pat, coded_pat, Suffix, coded_suffix, Name, Magnitude}}\n",
+            + f"use Rattle.rust_ast.specs.{patterns_module}.{{Pat, coded_pat}}\n"
+            + "use Rattle.rust_ast.specs.Patterns.{Suffix, coded_suffix, Name, Magnitude}\n",
         ATOMS=atoms(atom, ["MaybeWritten", "Pat", "Suffix"] + paths), SORTS=expressions(resolved), LISTS=LISTS["expressions"],
         OPTIONS={"MaybeExpr": ["Expr"]}, CODE=code,
-        VIEWS=[f"use Rattle.rust_ast.specs.{types_module} as types", f"use Rattle.rust_ast.specs.{patterns_module} as patterns"],
+        VIEWS=[f"use Rattle.rust_ast.specs.{types_module} as types", "use Rattle.rust_ast.specs.Patterns as suffixes"],
         USE=("" if resolved else "use crate::Ident;\n") + f"use crate::{modules[0]}::Pat;\n"
             + f"use crate::{modules[1]}::{{{', '.join(sorted(paths + ['Written']))}}};\nuse aen_base::{{{ids}}};",
-        FALLS=falls(patterns_module, "Pat, Name"),
+        FALLS=[f"use Rattle.rust_ast.specs.{patterns_module}.{{Pat}}"] + falls("Patterns", "Name"),
         DOCS={**EXPR_DOCS, "forever": "A loop: " + ("its number in the function, " if resolved else "") + "whether it is written with `while`, and its body."},
     )
 

@@ -17,7 +17,8 @@ use Rattle.aen_base.specs.contracts.ids.TypeId as typeid_row
 use Rattle.aen_base.specs.declared.operators.Builtin.{Builtin}
 use Rattle.aen_base.specs.contracts.operators.Builtin as builtin_row
 use Rattle.rust_ast.specs.Written.{MaybeWritten, coded_maybewritten, Turbos, coded_turbos}
-use Rattle.rust_ast.specs.Patterns.{Pat, coded_pat, Suffix, coded_suffix, Name, Magnitude}
+use Rattle.rust_ast.specs.Patterns.{Pat, coded_pat}
+use Rattle.rust_ast.specs.Patterns.{Suffix, coded_suffix, Name, Magnitude}
 
 abbrev head : Gv → Gv
 head gnil = gnil

@@ -5,7 +5,8 @@ use Rattle.std.proofs.Common.{arith}
 use denote.Param.Weighed.{most}
 use Rattle.rust_ast.specs.Resolved as t
 use Rattle.rust_ast.specs.ResolvedView.{block_of, expr_of, stmt_of}
-use Rattle.rust_ast.specs.Patterns.{Pat, Name}
+use Rattle.rust_ast.specs.Patterns.{Pat}
+use Rattle.rust_ast.specs.Patterns.{Name}
 use Rattle.aen_base.specs.declared.span.Span.{Span}
 use Rattle.rust_ast.specs.declared.resolved.Block.TheDeep.{deep-BlockNode, deep-ExprNode, deep-StmtNode}
 use Rattle.rust_ast.specs.declared.resolved.Block.TheShapes as shapes

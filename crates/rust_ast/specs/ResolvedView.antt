@@ -2,7 +2,7 @@
 -- Made by tools/code.py from tools/rust_ast.desc.py.
 use Rattle.rust_ast.specs.Resolved as t
 use Rattle.rust_ast.specs.Written as types
-use Rattle.rust_ast.specs.Patterns as patterns
+use Rattle.rust_ast.specs.Patterns as suffixes
 use Rattle.rust_ast.specs.declared.resolved.CalleeNode.{CalleeNode}
 use Rattle.rust_ast.specs.declared.resolved.CalleeNode.TheVariants as Callee_
 use Rattle.rust_ast.specs.declared.resolved.ExprNode.{ExprNode}
@@ -18,7 +18,7 @@ callee_of (Callee_.BuiltinOf a0) = t.builtin_of a0
 callee_of (Callee_.Constructor a0 a1) = t.constructor a0 a1
 
 abbrev pub expr_of : ExprNode → t.Expr
-expr_of (Expr_.Number a0 a1 a2 a3) = t.number a0 a1 a2 (patterns.suffix a3)
+expr_of (Expr_.Number a0 a1 a2 a3) = t.number a0 a1 a2 (suffixes.suffix a3)
 expr_of (Expr_.Truth a0 a1) = t.truth a0 a1
 expr_of (Expr_.Tuple a0 a1) = t.tuple a0 (t.exprs a1)
 expr_of (Expr_.Inner a0) = t.inner a0

@@ -15,7 +15,8 @@ use Rattle.aen_base.specs.contracts.operators.CmpOp as cmpop_row
 use Rattle.rust_ast.specs.declared.ident.Ident.{Ident}
 use Rattle.rust_ast.specs.contracts.ident.Ident as ident_row
 use Rattle.rust_ast.specs.SourceTypes.{MaybeWritten, coded_maybewritten, Turbo, coded_turbo, Path, coded_path}
-use Rattle.rust_ast.specs.SourcePatterns.{Pat, coded_pat, Suffix, coded_suffix, Name, Magnitude}
+use Rattle.rust_ast.specs.SourcePatterns.{Pat, coded_pat}
+use Rattle.rust_ast.specs.Patterns.{Suffix, coded_suffix, Name, Magnitude}
 
 abbrev head : Gv → Gv
 head gnil = gnil

@@ -1,24 +1,15 @@
 -- Patterns of a source (LANGUAGE.md, "Grammar").
 -- Made by tools/trees.py from tools/rust_ast.desc.py.
-use Rattle.std.specs.Prelude.{◌≡◌, ℕ, zero, suc, ◌+◌, Bool, List, [], ◌∷◌, Option, Some, None, refl}
+use Rattle.std.specs.Prelude.{◌≡◌, ℕ, zero, suc, ◌+◌, Bool, List, [], ◌∷◌, refl}
 use Rattle.std.specs.Coded.{Coded, coded_ℕ, coded_bool, coded_list}
 use Rattle.std.proofs.Common.{ap, sym, ◌∙◌, subst}
 use base.Stored.{Gv, gnil, gnum, gcons, num}
 use Rattle.aen_base.specs.declared.span.Span.{Span}
 use Rattle.aen_base.specs.contracts.span.Span as span_row
-use Rattle.aen_base.specs.declared.int_ty.IntTy.{IntTy}
-use Rattle.aen_base.specs.contracts.int_ty.IntTy as intty_row
 use Rattle.rust_ast.specs.declared.ident.Ident.{Ident}
 use Rattle.rust_ast.specs.contracts.ident.Ident as ident_row
 use Rattle.rust_ast.specs.SourceTypes.{Path, coded_path}
-
--- the bytes of a name
-abbrev pub Name : Type 0
-Name = List ℕ
-
--- a number as it is written, below 2^128
-abbrev pub Magnitude : Type 0
-Magnitude = ℕ
+use Rattle.rust_ast.specs.Patterns.{Suffix, coded_suffix, Name, Magnitude}
 
 abbrev head : Gv → Gv
 head gnil = gnil
@@ -53,10 +44,6 @@ mutual
     no_fieldpats : FieldPats
     more_fieldpats : FieldPat → FieldPats → FieldPats
 
-  pub data Suffix : Type 0 where
-    no_suffix : Suffix
-    some_suffix : IntTy → Suffix
-
 abbrev pub pats : List (Pat) → Pats
 pats [] = no_pats
 pats (x ∷ xs) = more_pats x (pats xs)
@@ -81,33 +68,18 @@ pub fieldpats_back : (xs : List (FieldPat)) → fieldpats_list (fieldpats xs) �
 fieldpats_back [] = refl
 fieldpats_back (x ∷ xs) = ap (λ r. x ∷ r) (fieldpats_back xs)
 
-abbrev pub suffix : Option IntTy → Suffix
-suffix None = no_suffix
-suffix (Some x) = some_suffix x
-
-abbrev pub suffix_option : Suffix → Option IntTy
-suffix_option no_suffix = None
-suffix_option (some_suffix x) = Some x
-
-pub suffix_back : (o : Option IntTy) → suffix_option (suffix o) ≡ o
-suffix_back None = refl
-suffix_back (Some x) = refl
-
 pub pats_inj : (xs ys : List (Pat)) → pats xs ≡ pats ys → xs ≡ ys
 pats_inj xs ys p = sym (pats_back xs) ∙ ap pats_list p ∙ pats_back ys
 
 pub fieldpats_inj : (xs ys : List (FieldPat)) → fieldpats xs ≡ fieldpats ys → xs ≡ ys
 fieldpats_inj xs ys p = sym (fieldpats_back xs) ∙ ap fieldpats_list p ∙ fieldpats_back ys
 
-pub suffix_inj : (x y : Option IntTy) → suffix x ≡ suffix y → x ≡ y
-suffix_inj x y p = sym (suffix_back x) ∙ ap suffix_option p ∙ suffix_back y
-
 abbrev mutual
   pub nodes_pat : Pat → ℕ
   nodes_pat (wild a0) = 1
   nodes_pat (lone a0) = 1
   nodes_pat (mut_bind a0 a1) = 1
-  nodes_pat (number a0 a1 a2 a3) = nodes_suffix a3 + 1
+  nodes_pat (number a0 a1 a2 a3) = 1
   nodes_pat (truth a0 a1) = 1
   nodes_pat (tuple a0 a1) = nodes_pats a1 + 1
   nodes_pat (construct a0 a1 a2) = nodes_pats a2 + 1
@@ -125,16 +97,12 @@ abbrev mutual
   nodes_fieldpats no_fieldpats = 1
   nodes_fieldpats (more_fieldpats a0 a1) = nodes_fieldpat a0 + nodes_fieldpats a1 + 1
 
-  pub nodes_suffix : Suffix → ℕ
-  nodes_suffix no_suffix = 1
-  nodes_suffix (some_suffix a0) = 1
-
 abbrev mutual
   pub stored_pat : Pat → Gv
   stored_pat (wild a0) = gcons (gnum 0) (gcons (span_row.the_row.coded.code a0) gnil)
   stored_pat (lone a0) = gcons (gnum 1) (gcons (ident_row.the_row.coded.code a0) gnil)
   stored_pat (mut_bind a0 a1) = gcons (gnum 2) (gcons (span_row.the_row.coded.code a0) (gcons (ident_row.the_row.coded.code a1) gnil))
-  stored_pat (number a0 a1 a2 a3) = gcons (gnum 3) (gcons (span_row.the_row.coded.code a0) (gcons (coded_bool.code a1) (gcons (coded_ℕ.code a2) (gcons (stored_suffix a3) gnil))))
+  stored_pat (number a0 a1 a2 a3) = gcons (gnum 3) (gcons (span_row.the_row.coded.code a0) (gcons (coded_bool.code a1) (gcons (coded_ℕ.code a2) (gcons (coded_suffix.code a3) gnil))))
   stored_pat (truth a0 a1) = gcons (gnum 4) (gcons (span_row.the_row.coded.code a0) (gcons (coded_bool.code a1) gnil))
   stored_pat (tuple a0 a1) = gcons (gnum 5) (gcons (span_row.the_row.coded.code a0) (gcons (stored_pats a1) gnil))
   stored_pat (construct a0 a1 a2) = gcons (gnum 6) (gcons (span_row.the_row.coded.code a0) (gcons (coded_path.code a1) (gcons (stored_pats a2) gnil)))
@@ -151,10 +119,6 @@ abbrev mutual
   pub stored_fieldpats : FieldPats → Gv
   stored_fieldpats no_fieldpats = gcons (gnum 0) (gnil)
   stored_fieldpats (more_fieldpats a0 a1) = gcons (gnum 1) (gcons (stored_fieldpat a0) (gcons (stored_fieldpats a1) gnil))
-
-  pub stored_suffix : Suffix → Gv
-  stored_suffix no_suffix = gcons (gnum 0) (gnil)
-  stored_suffix (some_suffix a0) = gcons (gnum 1) (gcons (intty_row.the_row.coded.code a0) gnil)
 
 abbrev Is_wild : Pat → Type 0
 Is_wild y = (a0 : Span) × (y ≡ wild a0)
@@ -288,27 +252,6 @@ as_no_fieldpats g y p = subst (λ n. Shape_fieldpats n y) (sym (ap (λ g. num (h
 as_more_fieldpats : (g : Gv) (y : FieldPats) → gcons (gnum 1) g ≡ stored_fieldpats y → Is_more_fieldpats y
 as_more_fieldpats g y p = subst (λ n. Shape_fieldpats n y) (sym (ap (λ g. num (head g)) p)) (shape_fieldpats y)
 
-abbrev Is_no_suffix : Suffix → Type 0
-Is_no_suffix y = y ≡ no_suffix
-
-abbrev Is_some_suffix : Suffix → Type 0
-Is_some_suffix y = (a0 : IntTy) × (y ≡ some_suffix a0)
-
-abbrev Shape_suffix : ℕ → Suffix → Type 0
-Shape_suffix zero y = Is_no_suffix y
-Shape_suffix (suc zero) y = Is_some_suffix y
-Shape_suffix (suc (suc n)) y = ⊥
-
-shape_suffix : (y : Suffix) → Shape_suffix (num (head (stored_suffix y))) y
-shape_suffix no_suffix = refl
-shape_suffix (some_suffix a0) = (a0, refl)
-
-as_no_suffix : (g : Gv) (y : Suffix) → gcons (gnum 0) g ≡ stored_suffix y → Is_no_suffix y
-as_no_suffix g y p = subst (λ n. Shape_suffix n y) (sym (ap (λ g. num (head g)) p)) (shape_suffix y)
-
-as_some_suffix : (g : Gv) (y : Suffix) → gcons (gnum 1) g ≡ stored_suffix y → Is_some_suffix y
-as_some_suffix g y p = subst (λ n. Shape_suffix n y) (sym (ap (λ g. num (head g)) p)) (shape_suffix y)
-
 mutual
   pub inj_pat : (x y : Pat) → stored_pat x ≡ stored_pat y → x ≡ y
   inj_pat (wild a0) y q =
@@ -324,9 +267,9 @@ mutual
       let p : stored_pat (mut_bind a0 a1) ≡ stored_pat (mut_bind w.0 w.1.0) = q ∙ ap stored_pat (w.1.1) in
       (λ i. mut_bind (span_row.the_row.coded.inj a0 w.0 (ap (λ g. head (tail g)) p) i) (ident_row.the_row.coded.inj a1 w.1.0 (ap (λ g. head (tail (tail g))) p) i)) ∙ sym (w.1.1)
   inj_pat (number a0 a1 a2 a3) y q =
-      let w = as_number (gcons (span_row.the_row.coded.code a0) (gcons (coded_bool.code a1) (gcons (coded_ℕ.code a2) (gcons (stored_suffix a3) gnil)))) y q in
+      let w = as_number (gcons (span_row.the_row.coded.code a0) (gcons (coded_bool.code a1) (gcons (coded_ℕ.code a2) (gcons (coded_suffix.code a3) gnil)))) y q in
       let p : stored_pat (number a0 a1 a2 a3) ≡ stored_pat (number w.0 w.1.0 w.1.1.0 w.1.1.1.0) = q ∙ ap stored_pat (w.1.1.1.1) in
-      (λ i. number (span_row.the_row.coded.inj a0 w.0 (ap (λ g. head (tail g)) p) i) (coded_bool.inj a1 w.1.0 (ap (λ g. head (tail (tail g))) p) i) (coded_ℕ.inj a2 w.1.1.0 (ap (λ g. head (tail (tail (tail g)))) p) i) (inj_suffix a3 w.1.1.1.0 (ap (λ g. head (tail (tail (tail (tail g))))) p) i)) ∙ sym (w.1.1.1.1)
+      (λ i. number (span_row.the_row.coded.inj a0 w.0 (ap (λ g. head (tail g)) p) i) (coded_bool.inj a1 w.1.0 (ap (λ g. head (tail (tail g))) p) i) (coded_ℕ.inj a2 w.1.1.0 (ap (λ g. head (tail (tail (tail g)))) p) i) (coded_suffix.inj a3 w.1.1.1.0 (ap (λ g. head (tail (tail (tail (tail g))))) p) i)) ∙ sym (w.1.1.1.1)
   inj_pat (truth a0 a1) y q =
       let w = as_truth (gcons (span_row.the_row.coded.code a0) (gcons (coded_bool.code a1) gnil)) y q in
       let p : stored_pat (truth a0 a1) ≡ stored_pat (truth w.0 w.1.0) = q ∙ ap stored_pat (w.1.1) in
@@ -372,15 +315,6 @@ mutual
       let p : stored_fieldpats (more_fieldpats a0 a1) ≡ stored_fieldpats (more_fieldpats w.0 w.1.0) = q ∙ ap stored_fieldpats (w.1.1) in
       (λ i. more_fieldpats (inj_fieldpat a0 w.0 (ap (λ g. head (tail g)) p) i) (inj_fieldpats a1 w.1.0 (ap (λ g. head (tail (tail g))) p) i)) ∙ sym (w.1.1)
 
-  pub inj_suffix : (x y : Suffix) → stored_suffix x ≡ stored_suffix y → x ≡ y
-  inj_suffix no_suffix y q =
-      let w = as_no_suffix (gnil) y q in
-      sym w
-  inj_suffix (some_suffix a0) y q =
-      let w = as_some_suffix (gcons (intty_row.the_row.coded.code a0) gnil) y q in
-      let p : stored_suffix (some_suffix a0) ≡ stored_suffix (some_suffix w.0) = q ∙ ap stored_suffix (w.1) in
-      (λ i. some_suffix (intty_row.the_row.coded.inj a0 w.0 (ap (λ g. head (tail g)) p) i)) ∙ sym (w.1)
-
 abbrev pub coded_pat : Coded Pat
 coded_pat = record { code = stored_pat; inj = inj_pat }
 
@@ -392,6 +326,3 @@ coded_pats = record { code = stored_pats; inj = inj_pats }
 
 abbrev pub coded_fieldpats : Coded FieldPats
 coded_fieldpats = record { code = stored_fieldpats; inj = inj_fieldpats }
-
-abbrev pub coded_suffix : Coded Suffix
-coded_suffix = record { code = stored_suffix; inj = inj_suffix }

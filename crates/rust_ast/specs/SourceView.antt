@@ -2,7 +2,7 @@
 -- Made by tools/code.py from tools/rust_ast.desc.py.
 use Rattle.rust_ast.specs.Source as t
 use Rattle.rust_ast.specs.SourceTypes as types
-use Rattle.rust_ast.specs.SourcePatterns as patterns
+use Rattle.rust_ast.specs.Patterns as suffixes
 use Rattle.rust_ast.specs.declared.source.ExprNode.{ExprNode}
 use Rattle.rust_ast.specs.declared.source.ExprNode.TheVariants as Expr_
 use Rattle.rust_ast.specs.declared.source.StmtNode.{StmtNode}
@@ -11,7 +11,7 @@ use Rattle.rust_ast.specs.declared.source.BlockNode.{BlockNode}
 use Rattle.rust_ast.specs.declared.source.BlockNode.TheVariants as Block_
 
 abbrev pub expr_of : ExprNode → t.Expr
-expr_of (Expr_.Number a0 a1 a2 a3) = t.number a0 a1 a2 (patterns.suffix a3)
+expr_of (Expr_.Number a0 a1 a2 a3) = t.number a0 a1 a2 (suffixes.suffix a3)
 expr_of (Expr_.Truth a0 a1) = t.truth a0 a1
 expr_of (Expr_.Tuple a0 a1) = t.tuple a0 (t.exprs a1)
 expr_of (Expr_.Inner a0) = t.inner a0
