@@ -1,11 +1,12 @@
 #!/usr/bin/env python3
 """bench.py [PROGRAM]: time, peak memory and growth of the built program on inputs that double.
 
-PROGRAM is ./aeneas where it isn't given. Sources for `translate` have many functions with lets, sums
-of ten terms and calls, or a single function with one long sum, or with many lets. One source for
-`run` is a chain of 250 calls. Texts for `eval` have many definitions with types and matches, or one
-definition with many binds, and are read whole before one of their definitions is evaluated. The last
-line is a loop of sums at a fuel of 1,000,000, by the program loop_bench where that is built.
+PROGRAM is what `./aeneas build` builds where it isn't given. Sources for `translate` have many
+functions with lets, sums of ten terms and calls, or a single function with one long sum, or with many
+lets. One source for `run` is a chain of 250 calls. Texts for `eval` have many definitions with types
+and matches, or one definition with many binds, and are read whole before one of their definitions is
+evaluated. The last line is a loop of sums at a fuel of 1,000,000, by the program loop_bench where
+that is built.
 """
 import os
 import subprocess
@@ -14,7 +15,8 @@ import tempfile
 import time
 
 HERE = os.path.dirname(os.path.abspath(__file__))
-PROGRAM = os.path.abspath(sys.argv[1]) if len(sys.argv) > 1 else os.path.join(HERE, "..", "aeneas")
+BUILT = os.path.join(HERE, "..", "crates", "aeneas_program", "out", "aeneas_program")
+PROGRAM = os.path.abspath(sys.argv[1] if len(sys.argv) > 1 else BUILT)
 LOOP = os.path.join(HERE, "..", "crates", "loop_bench", "out", "loop_bench")
 KIB, MIB = 1024, 1024 * 1024
 SOURCE_SIZES = [256 * KIB, 512 * KIB, MIB]
@@ -145,6 +147,8 @@ def table(name, make, sizes, words):
 
 
 def main():
+    if not os.access(PROGRAM, os.X_OK):
+        sys.exit(f"bench.py: there is no program {PROGRAM}: ./aeneas build makes it")
     print(f"{'input':24} {'bytes':>9} {'seconds':>8} {'growth':>7} {'peak MB':>8} {'a byte':>6} {'written':>9} status")
     for name, make in [("many functions", many_functions), ("one sum", one_sum), ("many lets", many_lets)]:
         table(f"translate {name}", make, SOURCE_SIZES, ["translate", "a"])

@@ -4,7 +4,9 @@
 Random programs of the present language, outside the gate. On each generated call the program's
 `run`, its `eval` of its own `translate`, and another implementation's `run`, and `eval` of the same
 text, are compared; and the translation is judged on random arguments. GEN writes NAME.rs and
-NAME.calls (tab-separated FN FUEL VALUE.. left) into the folder after --out.
+NAME.calls (tab-separated FN FUEL VALUE.. left) into the folder after --out. The repository
+holds neither GEN nor REF nor JUDGE: REF is another implementation of the commands, run with the same
+words, and JUDGE tells whether a text is a program's translation.
 """
 import argparse
 import glob

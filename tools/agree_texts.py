@@ -4,7 +4,8 @@
 Printed texts, outside the gate: the program's `eval` is compared with another implementation's, on
 generated texts with their calls, on each of the texts cut after a byte, and with a byte changed.
 GENTEXT writes NAME.lean, NAME.calls (tab-separated DEF FUEL VALUE..) and NAME.want into the folder
-after --out.
+after --out. The repository holds neither GENTEXT nor REF, which is another implementation of the
+commands, run with the same words.
 """
 import argparse
 import glob

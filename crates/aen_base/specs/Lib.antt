@@ -5,3 +5,5 @@ pub mod Arithmetic
 pub mod NumFields
 pub mod Wholes
 pub mod Operators
+pub mod Decimals
+pub mod Digits

@@ -7,6 +7,7 @@ mod bits;
 mod bitwise;
 mod boxed;
 mod comparison;
+mod decimals;
 #[cfg(test)]
 mod edge_tests;
 #[cfg(test)]
@@ -28,6 +29,7 @@ pub use arithmetic::{checked, negate};
 pub use bitwise::{cast, from_bool, invert};
 pub use boxed::Boxed;
 pub use comparison::compare;
+pub use decimals::{decimal, decimal_u32};
 pub use ids::{AbsId, DefId, FnId, LoanId, LoopId, RegionId, StmtId, SymId, TypeId, VarId};
 pub use int_ty::IntTy;
 pub use limits::Which;

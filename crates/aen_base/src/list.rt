@@ -131,9 +131,10 @@ impl<T: Drop> List<T> {
         self.items[at] = item;
     }
 
-    /// Moves the items of `more` to the end.
+    /// Moves the items of `more` to the end. After want of memory the list is as before.
     pub fn append(&mut self, more: List<T>) -> Result<(), NoMem>
-        ensures { OnOk result (self.new ≡ self.old ++ more) }
+        ensures ok { OnOk result (self.new ≡ self.old ++ more) }
+        ensures err { OnErr result (self.new ≡ self.old) }
     {
         let List { mut items } = more;
         self.items.append(&mut items)?;

@@ -5,8 +5,8 @@ use Rattle.std.specs.List.{slice_split, join_with_byte}
 use Rattle.std.proofs.lemmas.List.Splits.{join_with_byte-slice_split}
 use Rattle.std.proofs.lemmas.List.Elements.{All-cons}
 use Rattle.std.specs.String.{string_bytes, string_len}
-use Rattle.lean_reader.specs.declared.arguments.WordFault.{WordFault}
-use Rattle.lean_reader.specs.declared.arguments.WordFault.TheVariants as W
+use Rattle.lean_reader.specs.declared.arguments.ArgFault.{ArgFault}
+use Rattle.lean_reader.specs.declared.arguments.ArgFault.TheVariants as W
 use Rattle.lean_reader.specs.NamedDefinitions.{NoneNamed}
 use Rattle.lean_reader.specs.ValueWords.{IsReadingAt, parameter_types}
 use Rattle.pure_ast.specs.declared.def.Def.{Def}
@@ -15,7 +15,7 @@ use Rattle.pure_ast.specs.Values.{PValue}
 use Rattle.text_meaning.specs.Evaluate.{evaluate}
 use Rattle.aeneas.specs.DefinitionWord.{IsDefinitionWord}
 use Rattle.aeneas.specs.DefinitionParts.{IsOnly}
-use Rattle.aeneas.specs.Eval.{AnswerReply, WordFaultReply, EvaluationReply}
+use Rattle.aeneas.specs.Eval.{AnswerReply, ArgFaultReply, EvaluationReply}
 use Rattle.aeneas.specs.Lines.{count_line}
 use Rattle.aeneas.specs.Words.{IsShort}
 use Rattle.aeneas.proofs.WordLemmas.{all_unmapped, len_by_short}
@@ -38,7 +38,7 @@ within (y ∷ xs) (suc k) x h = let r = within xs k x h in omega arith
 
 module _ (defs : Defs) (k : ℕ) (d : Def) (found : slice_get defs.defs k ≡ Some d) (pieces words : List (List ℕ)) (n status : ℕ) (text : List ℕ) where
   -- words that are no types or arguments
-  pub refused : (fault : WordFault) → IsReadingAt defs d pieces words (Err fault) → WordFaultReply fault status text → EvaluationReply defs k pieces words n status text
+  pub refused : (fault : ArgFault) → IsReadingAt defs d pieces words (Err fault) → ArgFaultReply fault status text → EvaluationReply defs k pieces words n status text
   refused W.Types h r = record { definition = d; found = found; reply = inl (record { status_is = r.0; line = r.1; cause = h }) }
   refused (W.WrongCount expected given) h r =
       let count : length (parameter_types d h.0) ≡ length d.params = same_length _ d.params in

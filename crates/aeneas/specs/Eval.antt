@@ -1,8 +1,8 @@
 -- What `eval` answers (PROMISES.md, "Safe and total" and "Each tool meets its meaning").
 use Rattle.std.specs.Prelude.{◌≡◌, ℕ, ◌≤◌, ◌^◌, ◌⊎◌, List, length, Some, slice_get}
 use Rattle.aen_io.specs.Told.{Told}
-use Rattle.lean_reader.specs.declared.arguments.WordFault.{WordFault}
-use Rattle.lean_reader.specs.declared.arguments.WordFault.TheVariants as W
+use Rattle.lean_reader.specs.declared.arguments.ArgFault.{ArgFault}
+use Rattle.lean_reader.specs.declared.arguments.ArgFault.TheVariants as W
 use Rattle.lean_reader.specs.NamedDefinitions.{IsNamed, NoneNamed}
 use Rattle.lean_reader.specs.ValueWords.{AreTypeArguments, AreWords, IsFirstBad, parameter_types}
 use Rattle.pure_ast.specs.declared.def.Def.{Def}
@@ -27,11 +27,11 @@ AnswerReply defs A.OutOfFuel status text = (status ≡ 21) × (text ≡ out_of_f
 AnswerReply defs A.Stuck status text = (status ≡ 22) × (text ≡ stuck_line)
 
 -- the line of words that are no types or arguments
-abbrev pub WordFaultReply : WordFault → ℕ → List ℕ → Type 0
-WordFaultReply W.Types status text = (status ≡ 11) × (text ≡ types_line)
-WordFaultReply (W.WrongCount expected given) status text = (status ≡ 11) × (text ≡ count_line expected given)
-WordFaultReply (W.BadValue place) status text = (status ≡ 11) × (text ≡ argument_line place)
-WordFaultReply W.Memory status text = ⊥
+abbrev pub ArgFaultReply : ArgFault → ℕ → List ℕ → Type 0
+ArgFaultReply W.Types status text = (status ≡ 11) × (text ≡ types_line)
+ArgFaultReply (W.WrongCount expected given) status text = (status ≡ 11) × (text ≡ count_line expected given)
+ArgFaultReply (W.BadValue place) status text = (status ≡ 11) × (text ≡ argument_line place)
+ArgFaultReply W.Memory status text = ⊥
 
 -- 11: the pieces are no type arguments of the definition
 pub record HasBadTypes (defs : Defs) (d : Def) (pieces : List (List ℕ)) (status : ℕ) (text : List ℕ) : Type 0 where

@@ -1,7 +1,7 @@
 ghost use Rattle.std.specs.Prelude.{◌≡◌, ◌<◌, ◌^◌, IfOk, All, length, map};
 ghost use Rattle.std.specs.String.{string_bytes, string_len};
 ghost use Rattle.text_meaning.specs.WellFormed.{IsWellFormed};
-ghost use Rattle.aeneas.specs.Eval.{EvalReply, DefsReply, EvaluationReply, AnswerReply, WordFaultReply};
+ghost use Rattle.aeneas.specs.Eval.{EvalReply, DefsReply, EvaluationReply, AnswerReply, ArgFaultReply};
 
 use crate::definition_word::definition_word;
 use crate::fuel_limit::{FUEL_LIMIT, much_fuel};
@@ -9,7 +9,7 @@ use crate::printed::{Printed, printed_of};
 use crate::reply::{Reply, one_line};
 use aen_base::{DefId, NoMem, Text};
 use aen_io::Files;
-use lean_reader::{WordFault, def_named, print_atom, read_args};
+use lean_reader::{ArgFault, def_named, print_atom, read_args};
 use pure_ast::Defs;
 use pure_eval::eval;
 use std::alloc::Global;
@@ -77,25 +77,25 @@ fn eval_definition(
 {
     match read_args(alloc, defs, def, types, values) {
         Ok(args) => answer_reply(alloc, defs, eval(alloc, defs, def, args.as_slice(), fuel)?),
-        Err(fault) => word_fault_reply(alloc, fault),
+        Err(fault) => arg_fault_reply(alloc, fault),
     }
 }
 
 /// The refusal of words that are no types or arguments.
-fn word_fault_reply(alloc: Global, fault: WordFault) -> Result<Reply, NoMem>
-    ensures { IfOk result (λ r. WordFaultReply fault r.status r.text) }
+fn arg_fault_reply(alloc: Global, fault: ArgFault) -> Result<Reply, NoMem>
+    ensures { IfOk result (λ r. ArgFaultReply fault r.status r.text) }
 {
     match fault {
-        WordFault::Types => one_line(alloc, 11, "refused 11 types\n"),
-        WordFault::WrongCount(expected, given) => {
+        ArgFault::Types => one_line(alloc, 11, "refused 11 types\n"),
+        ArgFault::WrongCount(expected, given) => {
             let line = format!(in alloc; "refused 11 count {expected} {given}\n")?;
             one_line(alloc, 11, line.as_str())
         }
-        WordFault::BadValue(place) => {
+        ArgFault::BadValue(place) => {
             let line = format!(in alloc; "refused 11 argument {place}\n")?;
             one_line(alloc, 11, line.as_str())
         }
-        WordFault::Memory => Err(NoMem),
+        ArgFault::Memory => Err(NoMem),
     }
 }
 

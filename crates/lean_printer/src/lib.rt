@@ -8,8 +8,6 @@ mod lemmas;
 mod names;
 mod put;
 mod terms;
-#[cfg(test)]
-mod tests;
 mod types;
 mod values;
 mod words;

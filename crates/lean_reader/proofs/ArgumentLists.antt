@@ -6,8 +6,8 @@ use Rattle.pure_ast.specs.declared.def.Def.{Def}
 use Rattle.pure_ast.specs.declared.def.Defs.{Defs}
 use Rattle.pure_ast.specs.Types.{PTy}
 use Rattle.pure_ast.specs.Values.{PValue}
-use Rattle.lean_reader.specs.declared.arguments.WordFault.{WordFault}
-use Rattle.lean_reader.specs.declared.arguments.WordFault.TheVariants as W
+use Rattle.lean_reader.specs.declared.arguments.ArgFault.{ArgFault}
+use Rattle.lean_reader.specs.declared.arguments.ArgFault.TheVariants as W
 use Rattle.lean_reader.specs.ValueWords.{IsWord, IsPiece, AreWords, ArePieces, AreTypeArguments, IsReading, IsReadingAt, parameter_types}
 
 module _ {X : Type 0} where
@@ -65,7 +65,7 @@ pieces_bad d (q ∷ pieces) zero p a bad (t ∷ args) h = bad t (subst (λ x. Is
 pieces_bad d (q ∷ pieces) (suc i) p a bad (t ∷ args) h = pieces_bad d pieces i p a bad args h.1
 
 -- a reading of the words under type arguments is one of the call
-pub reading_at : (d : Defs) (x : Def) (pieces words : List (List ℕ)) (args : List PTy) (r : Result (List PValue) WordFault) → AreTypeArguments d x pieces args →
+pub reading_at : (d : Defs) (x : Def) (pieces words : List (List ℕ)) (args : List PTy) (r : Result (List PValue) ArgFault) → AreTypeArguments d x pieces args →
     IsReading d (parameter_types x args) words r → IsReadingAt d x pieces words r
 reading_at d x pieces words args (Ok values) a h = (args, (a, h))
 reading_at d x pieces words args (Err (W.WrongCount e g)) a h = (args, (a, h))

@@ -1,83 +1,64 @@
 -- What digits write, and that they are spelled so.
-use Rattle.std.proofs.Common.{◌≡◌, refl, ap, sym, subst, ◌∙◌, ℕ, zero, suc, ◌+◌, ◌*◌, ◌-◌, ◌/◌, ◌%◌, ◌<◌, ◌≤◌, ◌^◌, Bool, true, false, List, [], ◌∷◌, ◌++◌, length, drop, take, get_or, Option, Some, None, arith, ℤ, pos, negsuc}
+use Rattle.std.proofs.Common.{◌≡◌, refl, ap, sym, subst, ◌∙◌, ℕ, zero, suc, ◌+◌, ◌*◌, ◌-◌, ◌/◌, ◌%◌, ◌<◌, ◌≤◌, ◌^◌, Bool, true, false, rules, List, [], ◌∷◌, ◌++◌, length, drop, take, get_or, Option, Some, None, arith, ℤ, pos, negsuc}
 use Rattle.std.specs.Prelude.{◌==◌, ◌&&◌, nat_lt, if◌then◌else◌, bytes_eq}
-use Rattle.std.specs.Char.{is_ascii_digit, digit_value}
-use Rattle.std.specs.Int.{IsInRange}
+use Rattle.std.specs.Char.{digit_value}
+use Rattle.std.specs.List.{list_all}
 use Rattle.std.specs.Fmt.{decimal, signed_decimal}
 use Rattle.std.specs.Option.{option_and_then}
-use Rattle.std.specs.Str.Parse.{AllDigits, digits_value_after, digits_value}
+use Rattle.std.specs.Str.Parse.{IsNumeral, AllDigits, digits_value_after, digits_value}
 use Rattle.std.proofs.Math.Dec.{lit≤}
 use Rattle.std.proofs.lemmas.Bool.{ltb-true, eqb-true}
 use Rattle.std.proofs.lemmas.Bool.Decides.{nat_tests}
 use Rattle.std.proofs.lemmas.Fmt.{decimal_is_IsNumeral_wide, decimal_by_steps_wide, decimal_step_wide, decimal_digit}
 use Rattle.std.proofs.lemmas.List.{append-nil, append_assoc, take_all}
 use Rattle.std.proofs.lemmas.Str.{digit_value_digit}
-use Rattle.std.proofs.lemmas.Str.Parse.{digit_from_value}
+use Rattle.std.proofs.lemmas.Str.Parse.{IsNumeralModel, numerals_by_fold, digit_from_value}
 use Rattle.aen_base.specs.declared.int_ty.IntTy.{IntTy}
 use Rattle.aen_base.specs.declared.int_ty.IntTy.TheVariants.{U8, U16, U32, U64, U128, Usize, I8, I16, I32, I64, I128, Isize}
 use Rattle.aen_base.specs.Arithmetic.{number}
+use Rattle.aen_base.specs.Decimals.{is_digit, is_number, digits_value as number_digits, decimal_below}
 use Rattle.aen_base.specs.Numbers as numbers
 use Rattle.aen_base.specs.Numbers.{Number, in_range, signed, limit, depth}
 use Rattle.lean_reader.specs.Digits as d
 use Rattle.lean_reader.specs.Single as s
-use Rattle.lean_reader.proofs.Numbers.{and_left, and_right, and_true, bytes_same, small_sound, number_sound, large_limit, digits_not_minus, decimal_digits}
+use Rattle.lean_reader.proofs.Numbers.{and_left, and_right, and_true, bytes_same, small_sound, small_complete, number_sound, large_limit, digits_not_minus, decimal_digits}
 
 by_test : {A : Type 0} {G : Type 0} (b : Bool) (x y z : A) → (if b then x else y) ≡ z → (b ≡ true → x ≡ z → G) → (b ≡ false → y ≡ z → G) → G
 by_test true x y z h f g = f refl h
 by_test false x y z h f g = g refl h
 
-and_some : {A B : Type 0} (o : Option A) (f : A → Option B) (y : B) → option_and_then f o ≡ Some y → (x : A) × (o ≡ Some x) × (f x ≡ Some y)
-and_some None f y h = absurd cc
-and_some (Some x) f y h = (x, refl, h)
-
 lt_true : (a b : ℕ) → a < b → nat_lt a b ≡ true
 lt_true a b h = grind (arith, nat_tests)
 
--- one digit
-digit_range : (c : ℕ) → is_ascii_digit c ≡ true → IsInRange 48 57 c
-digit_range c h = (grind (arith, nat_tests), grind (arith, nat_tests))
+-- digits, as std has them
+own : IsNumeralModel (λ ds. list_all is_digit ds ≡ true) (number_digits 0)
+own = numerals_by_fold _ (search rules) number_digits (search rules)
 
-digit_class : (c : ℕ) → IsInRange 48 57 c → is_ascii_digit c ≡ true
-digit_class c h = let a = h.0 in let b = h.1 in grind (arith, nat_tests)
+all_digits : (ds : List ℕ) → is_number ds ≡ true → list_all is_digit ds ≡ true
+all_digits [] h = absurd cc
+all_digits (c ∷ cs) h = h
 
-step_sound : (n c m : ℕ) → d.with_digit n c ≡ Some m → (digit_value c < 10) × (m ≡ n * 10 + digit_value c) × (m < 2 ^ 128)
-unfolding d.with_digit
-step_sound n c m h =
-    by_test (is_ascii_digit c && nat_lt (n * 10 + (c - 48)) (2 ^ 128)) (Some (n * 10 + (c - 48))) None (Some m) h
-    (λ b e. let r = digit_range c (and_left _ _ b) in
-    let v = digit_value_digit c r in
-    let l = ltb-true (n * 10 + (c - 48)) (2 ^ 128) (and_right _ _ b) in
-    let q : n * 10 + (c - 48) ≡ m = cc in
-    (omega (arith, r.0, r.1), sym q ∙ omega (arith, r.0, r.1), subst (λ x. x < 2 ^ 128) q l))
+some_digits : (ds : List ℕ) → IsNumeral 10 ds → is_number ds ≡ true
+some_digits [] h = let k : 0 < 0 = h.0 in absurd (omega arith)
+some_digits (c ∷ cs) h = own.from (c ∷ cs) h.1
+
+decimal_sound : (limit : ℕ) (ds : List ℕ) (m : ℕ) → decimal_below limit ds ≡ Some m → AllDigits 10 ds × (m ≡ digits_value 10 ds) × (m < limit)
+decimal_sound limit ds m h =
+    by_test (is_number ds && nat_lt (number_digits 0 ds) limit) (Some (number_digits 0 ds)) None (Some m) h
+    (λ b e. let q : number_digits 0 ds ≡ m = cc in
+    let all = own.to ds (all_digits ds (and_left _ _ b)) in
+    (all, sym q ∙ own.same ds all, subst (λ x. x < limit) q (ltb-true (number_digits 0 ds) limit (and_right _ _ b))))
     (λ b e. absurd cc)
 
-step_complete : (n c : ℕ) → digit_value c < 10 → n * 10 + digit_value c < 2 ^ 128 → d.with_digit n c ≡ Some (n * 10 + digit_value c)
-unfolding d.with_digit
-step_complete n c h l =
-    let r = digit_from_value c h in
-    let v = digit_value_digit c r in
-    let q : c - 48 ≡ digit_value c = omega arith in
-    let b = and_true (is_ascii_digit c) (nat_lt (n * 10 + (c - 48)) (2 ^ 128)) (digit_class c r) (lt_true (n * 10 + (c - 48)) (2 ^ 128) (omega arith)) in
-    ap (λ (b : Bool). if b then Some (n * 10 + (c - 48)) else None) b ∙ ap (λ x. Some (n * 10 + x)) q
-
--- all digits
-read_sound : (n : ℕ) (ds : List ℕ) (m : ℕ) → n < 2 ^ 128 → d.read_from n ds ≡ Some m → AllDigits 10 ds × (m ≡ digits_value_after 10 n ds) × (m < 2 ^ 128)
-read_sound n [] m l h = let q : n ≡ m = cc in (tt, sym q, subst (λ x. x < 2 ^ 128) q l)
-read_sound n (c ∷ cs) m l h =
-    let a = and_some (d.with_digit n c) (λ k. d.read_from k cs) m h in
-    let b = step_sound n c a.0 a.1 in
-    let r = read_sound a.0 cs m b.2 a.2 in
-    ((b.0, r.0), r.1 ∙ ap (λ x. digits_value_after 10 x cs) b.1, r.2)
+decimal_complete : (limit : ℕ) (ds : List ℕ) → IsNumeral 10 ds → digits_value 10 ds < limit → decimal_below limit ds ≡ Some (digits_value 10 ds)
+decimal_complete limit ds h l =
+    let same = own.same ds h.1 in
+    let b = and_true (is_number ds) (nat_lt (number_digits 0 ds) limit) (some_digits ds h) (lt_true (number_digits 0 ds) limit (omega (arith, same))) in
+    ap (λ (b : Bool). if b then Some (number_digits 0 ds) else None) b ∙ ap (λ x. Some x) same
 
 value_grows : (n : ℕ) (ds : List ℕ) → n ≤ digits_value_after 10 n ds
 value_grows n [] = omega arith
 value_grows n (c ∷ cs) = omega (arith, value_grows (n * 10 + digit_value c) cs)
-
-read_complete : (n : ℕ) (ds : List ℕ) → AllDigits 10 ds → digits_value_after 10 n ds < 2 ^ 128 → d.read_from n ds ≡ Some (digits_value_after 10 n ds)
-read_complete n [] h l = refl
-read_complete n (c ∷ cs) h l =
-    let g = value_grows (n * 10 + digit_value c) cs in
-    ap (option_and_then (λ k. d.read_from k cs)) (step_complete n c h.0 (omega arith)) ∙ read_complete (n * 10 + digit_value c) cs h.1 l
 
 -- the first digit
 abbrev Front : ℕ → List ℕ → Type 0
@@ -132,49 +113,41 @@ spelled (c ∷ e ∷ cs) h p small =
     ∙ ap (λ x. x ++ (e ∷ cs)) (decimal_digit (0 * 10 + digit_value c) (omega (arith, h.0)) ∙ ap (λ x. x ∷ []) is)
 
 -- the number that is written
-pub written_sound : (ds : List ℕ) (m : ℕ) → d.written ds ≡ Some m → (ds ≡ decimal m) × (m < 2 ^ 128)
+written_sound : (limit : ℕ) (ds : List ℕ) (m : ℕ) → limit ≤ 2 ^ 128 → d.written limit ds ≡ Some m → (ds ≡ decimal m) × (m < limit)
 unfolding d.written
-written_sound ds m h =
-    by_test (d.is_padded ds) None (d.read_from 0 ds) (Some m) h
+written_sound limit ds m few h =
+    by_test (d.is_padded ds) None (decimal_below limit ds) (Some m) h
     (λ b e. absurd cc)
-    (λ b e. let r = read_sound 0 ds m (lit≤ tt) e in
+    (λ b e. let r = decimal_sound limit ds m e in
     let l = large in
     (sym (spelled ds r.0 b (omega (arith, r.1, r.2))) ∙ ap decimal (sym r.1), r.2))
 
-pub written_complete : (m : ℕ) → m < 2 ^ 128 → d.written (decimal m) ≡ Some m
+written_complete : (limit m : ℕ) → limit ≤ 2 ^ 128 → m < limit → d.written limit (decimal m) ≡ Some m
 unfolding d.written
-written_complete m h =
+written_complete limit m few h =
     let l = large in
     let w : m < 10 ^ 64 = omega arith in
     let n = decimal_is_IsNumeral_wide m w in
-    rw (not_padded m w) (read_complete 0 (decimal m) n.0.1 (omega (arith, n.1)) ∙ ap Some n.1)
+    rw (not_padded m w) (decimal_complete limit (decimal m) n.0 (omega (arith, n.1)) ∙ ap Some n.1)
 
-and_end : (b : Bool) (m : ℕ) → (if b && true then Some m else None) ≡ (if b then Some m else None)
-and_end true m = refl
-and_end false m = refl
+-- numbers below 2^32
+small_limit : 2 ^ 32 ≤ 2 ^ 128
+small_limit = lit≤ tt
 
-none_small : (ds : List ℕ) (o : Option ℕ) → s.small_number ds ≡ o → d.written ds ≡ None → o ≡ None
+none_small : (ds : List ℕ) (o : Option ℕ) → s.small_number ds ≡ o → d.written (2 ^ 32) ds ≡ None → o ≡ None
 none_small ds None h w = refl
 none_small ds (Some n) h w =
     let r = small_sound ds n h in
-    let l : 2 ^ 32 ≤ 2 ^ 128 = lit≤ tt in
-    let k = written_complete n (omega (arith, r.1)) in
-    let e = ap d.written r.0 in
+    let k = written_complete (2 ^ 32) n small_limit r.1 in
+    let e = ap (d.written (2 ^ 32)) r.0 in
     absurd cc
 
--- numbers below 2^32
-small_by : (ds : List ℕ) (o : Option ℕ) → d.written ds ≡ o → s.small_number ds ≡ option_and_then d.narrowed o
-unfolding s.small_number d.narrowed
-small_by ds (Some m) w =
-    let r = written_sound ds m w in
-    let l = large in
-    let k : m < 10 ^ 64 = omega (arith, r.1) in
-    let v = (decimal_is_IsNumeral_wide m k).1 in
-    ap s.small_number r.0 ∙ rw (decimal_digits m k) (rw v (rw (bytes_same (decimal m)) (and_end (nat_lt m (2 ^ 32)) m)))
+small_by : (ds : List ℕ) (o : Option ℕ) → d.written (2 ^ 32) ds ≡ o → s.small_number ds ≡ o
+small_by ds (Some m) w = let r = written_sound (2 ^ 32) ds m small_limit w in ap s.small_number r.0 ∙ small_complete m r.1
 small_by ds None w = none_small ds (s.small_number ds) refl w
 
-pub small_is : (ds : List ℕ) → s.small_number ds ≡ option_and_then d.narrowed (d.written ds)
-small_is ds = small_by ds (d.written ds) refl
+pub small_is : (ds : List ℕ) → s.small_number ds ≡ d.written (2 ^ 32) ds
+small_is ds = small_by ds (d.written (2 ^ 32) ds) refl
 
 -- numbers of a type
 plain_value : (ds : List ℕ) → s.has_minus ds ≡ false → s.magnitude ds ≡ digits_value 10 ds
@@ -228,16 +201,16 @@ depth_below Isize = lit≤ tt
 written_front : (n : ℕ) → n < 2 ^ 128 → s.has_minus (decimal n) ≡ false
 written_front n h = let l = large in digits_not_minus (decimal n) (decimal_digits n (omega arith))
 
-not_plain : (ds : List ℕ) (z : ℤ) (t : IntTy) → ds ≡ signed_decimal z → in_range t z ≡ true → s.has_minus ds ≡ false → d.written ds ≡ None → ⊥
+not_plain : (ds : List ℕ) (z : ℤ) (t : IntTy) → ds ≡ signed_decimal z → in_range t z ≡ true → s.has_minus ds ≡ false → d.written (2 ^ 128) ds ≡ None → ⊥
 not_plain ds (pos n) t e r m w =
     let a = ltb-true n (limit t) r in
     let b = large_limit t in
-    let k = written_complete n (omega arith) in
-    let f = ap d.written e in
+    let k = written_complete (2 ^ 128) n (omega arith) (omega arith) in
+    let f = ap (d.written (2 ^ 128)) e in
     cc
 not_plain ds (negsuc n) t e r m w = let f = ap s.has_minus e in cc
 
-not_minus : (cs : List ℕ) (z : ℤ) (t : IntTy) → (45 ∷ cs) ≡ signed_decimal z → in_range t z ≡ true → d.written cs ≡ None → ⊥
+not_minus : (cs : List ℕ) (z : ℤ) (t : IntTy) → (45 ∷ cs) ≡ signed_decimal z → in_range t z ≡ true → d.written (2 ^ 128) cs ≡ None → ⊥
 not_minus cs (pos n) t e r w =
     let a = ltb-true n (limit t) r in
     let b = large_limit t in
@@ -247,32 +220,32 @@ not_minus cs (pos n) t e r w =
 not_minus cs (negsuc n) t e r w =
     let a = ltb-true n (depth t) r in
     let b = depth_below t in
-    let k = written_complete (suc n) (omega arith) in
-    let f = ap (λ (ds : List ℕ). d.written (drop 1 ds)) e in
+    let k = written_complete (2 ^ 128) (suc n) (omega arith) (omega arith) in
+    let f = ap (λ (ds : List ℕ). d.written (2 ^ 128) (drop 1 ds)) e in
     cc
 
-none_plain : (ds : List ℕ) (t : IntTy) (o : Option Number) → s.number_of ds t ≡ o → s.has_minus ds ≡ false → d.written ds ≡ None → o ≡ None
+none_plain : (ds : List ℕ) (t : IntTy) (o : Option Number) → s.number_of ds t ≡ o → s.has_minus ds ≡ false → d.written (2 ^ 128) ds ≡ None → o ≡ None
 none_plain ds t None h m w = refl
 none_plain ds t (Some n) h m w =
     let r = number_sound ds t n h in
     absurd (not_plain ds n.value n.ty r.0 r.2 m w)
 
-none_minus : (cs : List ℕ) (t : IntTy) (o : Option Number) → s.number_of (45 ∷ cs) t ≡ o → d.written cs ≡ None → o ≡ None
+none_minus : (cs : List ℕ) (t : IntTy) (o : Option Number) → s.number_of (45 ∷ cs) t ≡ o → d.written (2 ^ 128) cs ≡ None → o ≡ None
 none_minus cs t None h w = refl
 none_minus cs t (Some n) h w =
     let r = number_sound (45 ∷ cs) t n h in
     absurd (not_minus cs n.value n.ty r.0 r.2 w)
 
-plain_by : (ds : List ℕ) (t : IntTy) (o : Option ℕ) → d.written ds ≡ o → s.has_minus ds ≡ false → s.number_of ds t ≡ option_and_then (d.signed_number false t) o
+plain_by : (ds : List ℕ) (t : IntTy) (o : Option ℕ) → d.written (2 ^ 128) ds ≡ o → s.has_minus ds ≡ false → s.number_of ds t ≡ option_and_then (d.signed_number false t) o
 plain_by ds t (Some m) w h =
-    let r = written_sound ds m w in
+    let r = written_sound (2 ^ 128) ds m (omega arith) w in
     let l = large in
     ap (λ ds. s.number_of ds t) r.0 ∙ plain_number m t (omega (arith, r.1))
 plain_by ds t None w h = none_plain ds t (s.number_of ds t) refl h w
 
-minus_by : (cs : List ℕ) (t : IntTy) (o : Option ℕ) → d.written cs ≡ o → s.number_of (45 ∷ cs) t ≡ option_and_then (d.minus_number t) o
+minus_by : (cs : List ℕ) (t : IntTy) (o : Option ℕ) → d.written (2 ^ 128) cs ≡ o → s.number_of (45 ∷ cs) t ≡ option_and_then (d.minus_number t) o
 minus_by cs t (Some m) w =
-    let r = written_sound cs m w in
+    let r = written_sound (2 ^ 128) cs m (omega arith) w in
     let l = large in
     ap (λ ds. s.number_of (45 ∷ ds) t) r.0 ∙ minus_decimal m t (omega (arith, r.1))
 minus_by cs t None w = none_minus cs t (s.number_of (45 ∷ cs) t) refl w
@@ -293,8 +266,8 @@ none_number t (Some n) h = absurd (empty n.value n.ty (number_sound [] t n h).0 
 
 number_by : (b : Bool) (c : ℕ) (cs : List ℕ) (t : IntTy) → (c == 45) ≡ b → s.number_of (c ∷ cs) t ≡ (if b then d.below_zero cs t else d.above_zero (c ∷ cs) t)
 unfolding d.below_zero d.above_zero
-number_by true c cs t h = ap (λ c. s.number_of (c ∷ cs) t) (eqb-true c 45 h) ∙ minus_by cs t (d.written cs) refl
-number_by false c cs t h = plain_by (c ∷ cs) t (d.written (c ∷ cs)) refl h
+number_by true c cs t h = ap (λ c. s.number_of (c ∷ cs) t) (eqb-true c 45 h) ∙ minus_by cs t (d.written (2 ^ 128) cs) refl
+number_by false c cs t h = plain_by (c ∷ cs) t (d.written (2 ^ 128) (c ∷ cs)) refl h
 
 pub number_is : (ds : List ℕ) (t : IntTy) → s.number_of ds t ≡ d.number_read ds t
 number_is [] t = none_number t (s.number_of [] t) refl

@@ -16,8 +16,8 @@ use Rattle.text_meaning.specs.Tokens.{Token, mark}
 use Rattle.text_meaning.specs.ValueTerms.{value_term}
 use Rattle.text_meaning.specs.WellFormedTerms.{IsTerm}
 use Rattle.text_meaning.specs.WellFormedTypes.{IsType}
-use Rattle.lean_reader.specs.declared.arguments.WordFault.{WordFault}
-use Rattle.lean_reader.specs.declared.arguments.WordFault.TheVariants as W
+use Rattle.lean_reader.specs.declared.arguments.ArgFault.{ArgFault}
+use Rattle.lean_reader.specs.declared.arguments.ArgFault.TheVariants as W
 
 abbrev pub is_token : Mark → Token → Bool
 is_token m (mark k) = sameb the_type k m
@@ -75,7 +75,7 @@ abbrev pub parameter_types : Def → List PTy → List PTy
 parameter_types d args = map (put_in args) d.params
 
 -- what is read of words where values of these types are expected
-abbrev pub IsReading : Defs → List PTy → List (List ℕ) → Result (List PValue) WordFault → Type 0
+abbrev pub IsReading : Defs → List PTy → List (List ℕ) → Result (List PValue) ArgFault → Type 0
 IsReading defs types words (Ok values) = AreWords defs types words values
 IsReading defs types words (Err (W.WrongCount expected given)) =
     (length types ≡ length words → ⊥) × (expected ≡ length types) × (given ≡ length words)
@@ -84,7 +84,7 @@ IsReading defs types words (Err W.Types) = ⊥
 IsReading defs types words (Err W.Memory) = Unit {0}
 
 -- no pieces are type arguments where that is the fault
-abbrev pub IsReadingAt : Defs → Def → List (List ℕ) → List (List ℕ) → Result (List PValue) WordFault → Type 0
+abbrev pub IsReadingAt : Defs → Def → List (List ℕ) → List (List ℕ) → Result (List PValue) ArgFault → Type 0
 IsReadingAt defs d pieces words (Err W.Types) = (args : List PTy) → AreTypeArguments defs d pieces args → ⊥
 IsReadingAt defs d pieces words (Err W.Memory) = Unit {0}
 IsReadingAt defs d pieces words r =

@@ -19,7 +19,7 @@ use std::alloc::Global;
 
 /// Why words give no arguments.
 #[derive(Clone, Copy, Debug, PartialEq, Eq)]
-pub enum WordFault {
+pub enum ArgFault {
     /// The types are not as many as the definition's type parameters, or one is no type without type
     /// parameters.
     Types,
@@ -31,14 +31,14 @@ pub enum WordFault {
     Memory,
 }
 
-impl From<NoMem> for WordFault {
+impl From<NoMem> for ArgFault {
     ghost use Rattle.std.specs.Prelude.{◌≡◌};
-    ghost use Rattle.lean_reader.specs.declared.arguments.WordFault.TheVariants.{Memory};
+    ghost use Rattle.lean_reader.specs.declared.arguments.ArgFault.TheVariants.{Memory};
 
     ghost from_gives = { λ _ e. e ≡ Memory };
 
-    fn from(_: NoMem) -> WordFault {
-        WordFault::Memory
+    fn from(_: NoMem) -> ArgFault {
+        ArgFault::Memory
     }
 }
 
@@ -54,7 +54,7 @@ pub fn read_args(
     def: DefId,
     types: &[String],
     words: &[String],
-) -> Result<List<PValue>, WordFault>
+) -> Result<List<PValue>, ArgFault>
     requires well_formed { IsWellFormed defs.now }
     requires known { def.0 < length defs.now.defs }
     requires short_types { All (λ w. string_len w < 2 ^ 32) types.now }
@@ -76,7 +76,7 @@ fn read_all(
     definition: &Def,
     pieces: &[String],
     words: &[String],
-) -> Result<List<PValue>, WordFault>
+) -> Result<List<PValue>, ArgFault>
     requires well_formed { IsWellFormed defs.now }
     requires short_pieces { All (λ w. string_len w < 2 ^ 32) pieces.now }
     requires short_words { All (λ w. string_len w < 2 ^ 32) words.now }
@@ -85,7 +85,7 @@ fn read_all(
     let outline = outline_of(alloc, defs)?;
     let tables = Tables::new(alloc, outline)?;
     let Some(args) = type_arguments(alloc, defs, &tables, definition, pieces)? else {
-        return Err(WordFault::Types);
+        return Err(ArgFault::Types);
     };
     let types = put_in_all(alloc, args.as_slice(), definition.params.as_slice())?;
     read_values(alloc, defs, &tables, types.as_slice(), words)
@@ -140,20 +140,20 @@ fn read_values(
     tables: &Tables,
     types: &[PTy],
     words: &[String],
-) -> Result<List<PValue>, WordFault>
+) -> Result<List<PValue>, ArgFault>
     requires well_formed { IsWellFormed defs.now }
     requires own { tables.now ≡ outlines.outline_of defs.now }
     requires short { All (λ w. string_len w < 2 ^ 32) words.now }
     ensures { spec.IsReading defs.now types.now (map string_bytes words.now) result }
 {
     if types.len() != words.len() {
-        return Err(WordFault::WrongCount(types.len() as u64, words.len() as u64));
+        return Err(ArgFault::WrongCount(types.len() as u64, words.len() as u64));
     }
     let mut values = List::new(alloc);
     for place in 0..words.len() {
         match read_value(alloc, defs, tables, &types[place], words[place].as_str())? {
             Some(value) => values.push(value)?,
-            None => return Err(WordFault::BadValue(place as u64)),
+            None => return Err(ArgFault::BadValue(place as u64)),
         }
     }
     Ok(values)

@@ -1,32 +1,20 @@
 //! Numbers as they are spelled: without leading zeros, and each sign for one number alone.
 
-ghost use Rattle.std.specs.Prelude.{◌≡◌};
+ghost use Rattle.std.specs.Prelude.{◌≡◌, ◌^◌};
 ghost use Rattle.lean_reader.specs.Digits as digits_read;
 ghost use Rattle.lean_reader.specs.Single as spec;
 
-use aen_base::{IntTy, Num, num};
+use aen_base::{IntTy, Num, decimal, decimal_u32, num};
 
 /// A decimal number below 2^32 without leading zeros.
-#[tactic(auto, using(crate::proofs::Spelling::small_is))]
+#[tactic(auto, using(crate::proofs::Spelling::small_is), unfolding(crate::specs::Digits::written))]
 pub(crate) fn small_number(digits: &[u8]) -> Option<u32>
     ensures { result ≡ spec.small_number digits.now }
 {
-    match written(digits) {
-        None => None,
-        Some(value) => below_32_bits(value),
+    if is_padded(digits) {
+        return None;
     }
-}
-
-/// A number below 2^32.
-#[tactic(auto, unfolding(crate::specs::Digits::narrowed))]
-fn below_32_bits(value: u128) -> Option<u32>
-    ensures { result ≡ digits_read.narrowed value }
-{
-    if value > 0xffff_ffff {
-        None
-    } else {
-        Some(value as u32)
-    }
+    decimal_u32(digits)
 }
 
 /// The number of this type that digits write, perhaps after a minus.
@@ -77,12 +65,12 @@ fn above_zero(digits: &[u8], ty: IntTy) -> Option<Num>
 /// The number below 2^128 that digits write without leading zeros.
 #[tactic(auto, unfolding(crate::specs::Digits::written))]
 fn written(digits: &[u8]) -> Option<u128>
-    ensures { result ≡ digits_read.written digits.now }
+    ensures { result ≡ digits_read.written (2 ^ 128) digits.now }
 {
     if is_padded(digits) {
         return None;
     }
-    read_digits(digits)
+    decimal(digits)
 }
 
 /// Whether there is no digit, or a zero before others.
@@ -94,34 +82,4 @@ fn is_padded(digits: &[u8]) -> bool
         [_] => false,
         [first, ..] => *first == b'0',
     }
-}
-
-/// The number that digits write. It ends at the first that leads to 2^128 or above, so that a long
-/// word takes no long time.
-fn read_digits(digits: &[u8]) -> Option<u128>
-    ensures { result ≡ digits_read.read_from 0 digits.now }
-{
-    let mut value = 0u128;
-    for digit in digits {
-        match with_digit(value, *digit) {
-            None => return None,
-            Some(more) => value = more,
-        }
-    }
-    Some(value)
-}
-
-/// A number below 2^128 with one more digit.
-#[tactic(auto, unfolding(crate::specs::Digits::with_digit))]
-fn with_digit(value: u128, digit: u8) -> Option<u128>
-    ensures { result ≡ digits_read.with_digit value digit }
-{
-    if !digit.is_ascii_digit() {
-        return None;
-    }
-    let digit = (digit - b'0') as u128;
-    if value > (u128::MAX - digit) / 10 {
-        return None;
-    }
-    Some(value * 10 + digit)
 }

@@ -40,8 +40,6 @@ mod primitives;
 mod putting_in;
 mod read;
 mod repetitions;
-#[cfg(test)]
-mod round_trip_tests;
 mod rule_context;
 mod rules;
 mod signs;
@@ -58,12 +56,10 @@ mod values;
 mod variables;
 mod variant;
 mod whole;
-#[cfg(test)]
-mod whole_tests;
 mod word_reading;
 mod words;
 
-pub use arguments::{WordFault, read_args};
+pub use arguments::{ArgFault, read_args};
 pub(crate) use fault::ReadFault;
 pub use laws::texts_are_read_whole;
 pub use naming_words::def_named;

@@ -11,8 +11,6 @@ mod frames;
 mod operands;
 mod primitives;
 mod terms;
-#[cfg(test)]
-mod tests;
 mod turns;
 mod variables;
 

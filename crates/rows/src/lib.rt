@@ -6,6 +6,14 @@ mod evaluating;
 #[cfg(test)]
 mod first_path;
 #[cfg(test)]
+mod long_sums;
+#[cfg(test)]
+mod open_brackets;
+#[cfg(test)]
+mod primitives;
+#[cfg(test)]
 mod running;
 #[cfg(test)]
 mod table;
+#[cfg(test)]
+mod worked_text;

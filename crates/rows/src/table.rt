@@ -30,7 +30,7 @@ pub const GOOD: Outside = Outside {
 };
 
 /// The room of the sink, more than any row writes.
-const ROOM: u64 = 10_000;
+const ROOM: u64 = 100_000;
 
 /// The words as strings.
 fn strings(alloc: Global, words: &[&str]) -> Result<Vec<String>, AllocError> {

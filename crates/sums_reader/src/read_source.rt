@@ -37,17 +37,3 @@ pub fn read(alloc: Global, content: &[u8]) -> Result<Program, ReadFault>
     let tokens = lex(alloc, content)?;
     parse(alloc, tokens.as_slice())
 }
-
-#[cfg(test)]
-mod tests {
-    use super::*;
-
-    #[test]
-    fn reads_two_functions(rt: HostRuntime) -> Result<(), ReadFault> {
-        let source =
-            b"fn f(a: u32, b: u32,) -> u32 { let c = a + b; c } fn g() -> u32 { 1 + f(2, 3) }";
-        let program = read(rt.alloc(), source)?;
-        assert_eq!(rt; program.functions.len(), 2);
-        Ok(())
-    }
-}

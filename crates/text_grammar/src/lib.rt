@@ -8,8 +8,6 @@ mod recognizer;
 mod role;
 mod symbol;
 mod table;
-#[cfg(test)]
-mod tests;
 mod words;
 
 pub use attributed::{Attributed, Coming, Count, Counting, Noting};

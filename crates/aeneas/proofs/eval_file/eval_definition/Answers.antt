@@ -3,7 +3,7 @@ use Rattle.std.proofs.Common.{◌∙◌, ap, subst, map}
 use Rattle.std.proofs.lemmas.Result.{IfOk-weaker}
 use Rattle.std.specs.String.{string_bytes}
 use Rattle.text_meaning.specs.Evaluate.{evaluate}
-use Rattle.aeneas.specs.Eval.{AnswerReply, WordFaultReply, EvaluationReply}
+use Rattle.aeneas.specs.Eval.{AnswerReply, ArgFaultReply, EvaluationReply}
 use Rattle.aeneas.proofs.Evaluations.{item_there, refused, answered}
 use Rattle.aeneas.proofs.eval_file.eval_definition.Goals as goal
 
@@ -24,6 +24,6 @@ returns-in-Err c =
     let found = item_there defs.defs c.args.def.0 c.requires.known in
     let pieces = map string_bytes c.args.types.now in
     let words = map string_bytes c.args.values.now in
-    IfOk-weaker c.word_fault_reply.result (λ r. WordFaultReply c.in-Err.fault r.status r.text) (λ r. EvaluationReply defs c.args.def.0 pieces words c.args.fuel r.status r.text)
+    IfOk-weaker c.arg_fault_reply.result (λ r. ArgFaultReply c.in-Err.fault r.status r.text) (λ r. EvaluationReply defs c.args.def.0 pieces words c.args.fuel r.status r.text)
     (λ r h. refused defs c.args.def.0 found.0 found.1 pieces words c.args.fuel r.status r.text c.in-Err.fault (c.in-Err.ensures.reading found.0 found.1) h)
-    c.word_fault_reply.ensures
+    c.arg_fault_reply.ensures
