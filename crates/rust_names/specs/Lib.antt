@@ -1,4 +1,5 @@
 pub mod Finding
+pub mod Gives
 pub mod Tables
 pub mod Lookups
 pub mod Twice

@@ -1,6 +1,6 @@
 -- What a name or a path means, as a declared type, a function, a constructor or a variant; or the place
 -- of the name that is declared nowhere (LANGUAGE.md, "Names").
-use Rattle.std.specs.Prelude.{ℕ, Bool, ◌||◌, if◌then◌else◌, List, Option, Some, None, option_map, Result, Ok, Err}
+use Rattle.std.specs.Prelude.{ℕ, Bool, true, false, ◌||◌, if◌then◌else◌, List, map, slice_get, Option, Some, None, option_map, Result, Ok, Err}
 use Rattle.std.specs.Option.{option_and_then}
 use Rattle.aen_base.specs.declared.span.Span.{Span}
 use Rattle.aen_base.specs.declared.ids.TypeId.{TypeId}
@@ -11,7 +11,9 @@ use Rattle.rust_names.specs.declared.tables.TypeNames.{TypeNames}
 use Rattle.rust_names.specs.declared.tables.ValueNames.{ValueNames}
 use Rattle.rust_names.specs.declared.tables.Meaning.{Meaning}
 use Rattle.rust_names.specs.declared.tables.Meaning.TheVariants as means
-use Rattle.rust_names.specs.Finding.{find}
+use Rattle.rust_names.specs.declared.lookups.TypeMeaning.{TypeMeaning}
+use Rattle.rust_names.specs.declared.lookups.TypeMeaning.TheVariants.{Parameter, Declared}
+use Rattle.rust_names.specs.Finding.{find, place_of}
 use Rattle.rust_names.specs.Tables.{to_type}
 
 -- an answer, or the place of the first use that is declared nowhere
@@ -23,28 +25,17 @@ abbrev pub known : {A : Type 0} → Span → Option A → Result A Span
 known s None = Err s
 known s (Some x) = Ok x
 
--- the place of a name in a list
-abbrev pub place_of : List ℕ → List (List ℕ) → Option ℕ
-place_of w ns = option_map (λ r. r.0) (find (λ (n : List ℕ). n) ns w)
+-- ---- types: a type parameter or a declared type
 
--- ---- types
+abbrev pub parameter_or : Option ℕ → Option ℕ → Option TypeMeaning
+parameter_or None o = option_map (λ d. Declared (to_type d)) o
+parameter_or (Some k) o = Some (Parameter k)
 
--- a type parameter, or a declared type with what is known of it
-pub data TypeMeaning : Type 0 where
-  parameter : ℕ → TypeMeaning
-  declared : ℕ → TypeNames → TypeMeaning
-
-abbrev pub declared_type : Option (ℕ × TypeNames) → Option TypeMeaning
-declared_type None = None
-declared_type (Some r) = Some (declared r.0 r.1)
-
-abbrev pub parameter_or : Option ℕ → Option TypeMeaning → Option TypeMeaning
-parameter_or None o = o
-parameter_or (Some k) o = Some (parameter k)
+abbrev pub type_names : Tables → List (List ℕ)
+type_names t = map (λ (x : TypeNames). x.name) t.types
 
 abbrev pub type_meaning : Tables → Generics → Ident → Result TypeMeaning Span
-type_meaning t g i =
-    known i.span (parameter_or (place_of i.name g.type_params) (declared_type (find (λ (x : TypeNames). x.name) t.types i.name)))
+type_meaning t g i = known i.span (parameter_or (place_of g.type_params i.name) (place_of (type_names t) i.name))
 
 -- ---- constructors
 
@@ -72,10 +63,14 @@ as_constructor (means.Named d) = None
 abbrev pub constructor_of : List ValueNames → List ℕ → Option TypeId
 constructor_of vs w = option_and_then as_constructor (meaning_of vs w)
 
+abbrev pub variant_at : TypeId → List ℕ → Option TypeNames → Option (TypeId × ℕ)
+variant_at d w None = None
+variant_at d w (Some x) = option_map (λ v. (d, v)) (place_of x.variants w)
+
 -- a variant of an enum, by its place; neither a struct nor a type parameter has one
-abbrev pub variant_of : TypeMeaning → List ℕ → Option (TypeId × ℕ)
-variant_of (parameter k) w = None
-variant_of (declared d x) w = option_map (λ v. (to_type d, v)) (place_of w x.variants)
+abbrev pub variant_of : Tables → TypeMeaning → List ℕ → Option (TypeId × ℕ)
+variant_of t (Parameter k) w = None
+variant_of t (Declared d) w = variant_at d w (slice_get t.types d.0)
 
 -- the struct of this name, which braces follow
 abbrev pub if_struct : ℕ × TypeNames → Option TypeId

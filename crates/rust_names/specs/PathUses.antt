@@ -30,7 +30,7 @@ abbrev pub variant_path : Tables → Generics → Ident → s.Turbo → Ident �
 variant_path t g a ts b =
     and_then (type_meaning t g a) (λ m.
     and_then (read_turbo t g ts) (λ us.
-    and_then (known b.span (variant_of m b.name)) (λ v.
+    and_then (known b.span (variant_of t m b.name)) (λ v.
     Ok (record { id = v.0; variant = v.1; turbos = us }))))
 
 -- a built-in's path that isn't called means nothing

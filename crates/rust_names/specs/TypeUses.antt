@@ -5,8 +5,10 @@ use Rattle.rust_ast.specs.SourceTypes as s
 use Rattle.rust_ast.specs.Written as w
 use Rattle.rust_names.specs.declared.tables.Tables.{Tables}
 use Rattle.rust_names.specs.declared.tables.Generics.{Generics}
-use Rattle.rust_names.specs.Lookups.{and_then, place_of, TypeMeaning, parameter, declared, type_meaning}
-use Rattle.rust_names.specs.Tables.{to_type}
+use Rattle.rust_names.specs.declared.lookups.TypeMeaning.{TypeMeaning}
+use Rattle.rust_names.specs.declared.lookups.TypeMeaning.TheVariants.{Parameter, Declared}
+use Rattle.rust_names.specs.Finding.{place_of}
+use Rattle.rust_names.specs.Lookups.{and_then, type_meaning}
 
 -- a lifetime that isn't declared is a fault of typing
 abbrev pub declared_or_not : Option ℕ → w.Lifetime
@@ -15,11 +17,11 @@ declared_or_not (Some k) = w.declared k
 
 abbrev pub read_lifetime : Generics → s.Lifetime → w.Lifetime
 read_lifetime g s.elided = w.elided
-read_lifetime g (s.lifetime i) = declared_or_not (place_of i.name g.lifetimes)
+read_lifetime g (s.lifetime i) = declared_or_not (place_of g.lifetimes i.name)
 
 abbrev pub as_written : Span → TypeMeaning → w.Writtens → w.Written
-as_written p (parameter k) xs = w.param p k xs
-as_written p (declared d x) xs = w.named p (to_type d) xs
+as_written p (Parameter k) xs = w.param p k xs
+as_written p (Declared d) xs = w.named p d xs
 
 abbrev mutual
   pub read_type : Tables → Generics → s.Written → Result w.Written Span

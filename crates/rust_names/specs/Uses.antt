@@ -1,6 +1,6 @@
 -- Expressions, statements and blocks with names resolved: uses are looked up, and variables and loops
 -- numbered, in source order (LANGUAGE.md, "Names").
-use Rattle.std.specs.Prelude.{ℕ, Bool, true, false, length, Result, Ok}
+use Rattle.std.specs.Prelude.{ℕ, Bool, true, false, List, length, Result, Ok, Err}
 use Rattle.aen_base.specs.declared.span.Span.{Span}
 use Rattle.rust_ast.specs.Source as s
 use Rattle.rust_ast.specs.Patterns as p
@@ -23,6 +23,10 @@ with_one make o = and_then o (λ a. Ok (make a.0, a.1))
 
 abbrev pub with_two : (r.Expr → r.Expr → r.Expr) → Answer r.Expr → (State → Answer r.Expr) → Answer r.Expr
 with_two make o next = and_then o (λ a. and_then (next a.1) (λ b. Ok (make a.0 b.0, b.1)))
+
+-- a value with the name of its field
+abbrev pub with_name : Span → List ℕ → Answer r.Expr → Answer (Span × List ℕ × r.Expr)
+with_name q n o = and_then o (λ x. Ok ((q, n, x.0), x.1))
 
 -- a pattern whose names are in scope where `inside` is read, and not after it
 abbrev pub under : Answer p.Pat → ℕ → (State → Answer r.Expr) → Answer (p.Pat × r.Expr)
@@ -95,8 +99,8 @@ abbrev mutual
   pub read_inits : Tables → Generics → s.Inits → State → Answer r.Inits
   read_inits t g s.no_inits st = Ok (r.no_inits, st)
   read_inits t g (s.more_inits q n a rest) st =
-      and_then (read t g a st) (λ x.
-      and_then (read_inits t g rest x.1) (λ y. Ok (r.more_inits q n x.0 y.0, y.1)))
+      and_then (with_name q n (read t g a st)) (λ x.
+      and_then (read_inits t g rest x.1) (λ y. Ok (r.more_inits x.0.0 x.0.1 x.0.2 y.0, y.1)))
 
   pub read_arms : Tables → Generics → s.Arms → State → Answer r.Arms
   read_arms t g s.no_arms st = Ok (r.no_arms, st)

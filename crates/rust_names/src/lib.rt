@@ -1,12 +1,11 @@
 //! Names: what each use in a program means (LANGUAGE.md, "Names").
 #![tactic(auto)]
 
+mod by_name;
 mod entry;
 mod fault;
+mod lookups;
 mod state;
 mod tables;
 
-pub use entry::{Entry, Kind};
 pub use fault::NameFault;
-pub use state::State;
-pub use tables::{Generics, Meaning, Tables, TypeNames, ValueNames};
