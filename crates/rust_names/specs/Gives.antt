@@ -1,5 +1,5 @@
 -- What a function that resolves gives: the answer of the definition; want of memory is free.
-use Rattle.std.specs.Prelude.{◌≡◌, ℕ, Result, Ok, Err}
+use Rattle.std.specs.Prelude.{◌≡◌, Result, Ok, Err}
 use Rattle.aen_base.specs.declared.span.Span.{Span}
 use Rattle.rust_names.specs.declared.fault.Stop.{Stop}
 use Rattle.rust_names.specs.declared.fault.Stop.TheVariants.{Unknown, Memory}
@@ -14,9 +14,3 @@ abbrev pub Gives : {A : Type 0} → Result A Span → Result A Stop → Type 0
 Gives o (Ok x) = o ≡ Ok x
 Gives o (Err (Unknown p)) = o ≡ Err p
 Gives o (Err Memory) = Unit {0}
-
--- a number of 32 bits
-abbrev pub IsNumber : ℕ → Result ℕ Stop → Type 0
-IsNumber n (Ok k) = k ≡ n
-IsNumber n (Err (Unknown p)) = ⊥
-IsNumber n (Err Memory) = Unit {0}

@@ -81,6 +81,10 @@ struct_of t w = option_and_then if_struct (find (λ (x : TypeNames). x.name) t.t
 
 -- ---- the built-ins' paths
 
+-- where one stands that isn't called, it means nothing
+abbrev pub uncalled_place : Tables → Span → Span → Bool → Span
+uncalled_place t path mem std = if std || t.mem then path else mem
+
 -- `mem` by itself needs the `use`: else it is what is declared nowhere
 abbrev pub swap_place : Tables → Span → Span → Bool → Result Span Span
 swap_place t path mem std = if std || t.mem then Ok path else Err mem

@@ -1,5 +1,5 @@
 -- A program with names resolved, or the first fault of its names (LANGUAGE.md, "Names", "Limits").
-use Rattle.std.specs.Prelude.{ℕ, suc, Bool, true, false, ◌||◌, if◌then◌else◌, List, [], ◌∷◌, length, map, Some, None, Result, Ok, Err, nat_lt, decimal}
+use Rattle.std.specs.Prelude.{ℕ, suc, Bool, true, false, ◌||◌, if◌then◌else◌, List, [], ◌∷◌, ◌++◌, length, map, Some, None, Result, Ok, Err, nat_lt, decimal}
 use Rattle.aen_base.specs.declared.span.Span.{Span}
 use Rattle.aen_base.specs.declared.limits.Which.TheVariants.{Functions, Variables}
 use Rattle.rust_ast.specs.SourceTypes as s
@@ -25,38 +25,42 @@ use Rattle.rust_names.specs.declared.tables.Tables.{Tables}
 use Rattle.rust_names.specs.declared.tables.Generics.{Generics}
 use Rattle.rust_names.specs.Lookups.{and_then}
 use Rattle.rust_names.specs.Tables.{names_of, tables_of}
-use Rattle.rust_names.specs.Scopes.{State, numbered}
+use Rattle.rust_names.specs.Scopes.{State, enter}
 use Rattle.rust_names.specs.TypeUses.{read_type, read_maybe_type}
 use Rattle.rust_names.specs.Twice.{Pair, twice}
 use Rattle.rust_names.specs.Uses.{read_block}
-
--- types from left to right
-abbrev pub read_each : Tables → Generics → List s.Written → Result (List w.Written) Span
-read_each t g [] = Ok []
-read_each t g (x ∷ xs) = and_then (read_type t g x) (λ y. and_then (read_each t g xs) (λ ys. Ok (y ∷ ys)))
 
 abbrev pub only_parameters : List Ident → Generics
 only_parameters xs = record { lifetimes = []; type_params = names_of xs }
 
 -- ---- declared types
 
--- fields without names have their places as names, beginning with this one
+-- a field without a name has its place as its name
+abbrev pub placed_field : Tables → Generics → s.Written → ℕ → Result ((List ℕ × w.Written) × ℕ) Span
+placed_field t g x k = and_then (read_type t g x) (λ y. Ok ((decimal k, y), k + 1))
+
+-- fields without names, the first of which has this place
 abbrev pub read_placed : Tables → Generics → ℕ → List s.Written → Result (List (List ℕ × w.Written)) Span
 read_placed t g k [] = Ok []
-read_placed t g k (x ∷ xs) = and_then (read_type t g x) (λ y. and_then (read_placed t g (suc k) xs) (λ ys. Ok ((decimal k, y) ∷ ys)))
+read_placed t g k (x ∷ xs) = and_then (placed_field t g x k) (λ y. and_then (read_placed t g y.1 xs) (λ ys. Ok (y.0 ∷ ys)))
+
+abbrev pub named_field : Tables → Generics → Span × List ℕ × s.Written → Result (List ℕ × w.Written) Span
+named_field t g x = and_then (read_type t g x.2) (λ y. Ok (x.1, y))
 
 abbrev pub read_named : Tables → Generics → List (Span × List ℕ × s.Written) → Result (List (List ℕ × w.Written)) Span
 read_named t g [] = Ok []
-read_named t g (x ∷ xs) = and_then (read_type t g x.2) (λ y. and_then (read_named t g xs) (λ ys. Ok ((x.1, y) ∷ ys)))
+read_named t g (x ∷ xs) = and_then (named_field t g x) (λ y. and_then (read_named t g xs) (λ ys. Ok (y ∷ ys)))
 
 abbrev pub read_struct_fields : Tables → Generics → Fields → Result (List (List ℕ × w.Written)) Span
 read_struct_fields t g (fields.Named xs) = read_named t g xs
 read_struct_fields t g (fields.Placed xs) = read_placed t g 0 xs
 
+abbrev pub read_variant : Tables → Generics → variants.Variant → Result (List ℕ × List (List ℕ × w.Written)) Span
+read_variant t g v = and_then (read_placed t g 0 v.fields) (λ fs. Ok (v.name.name, fs))
+
 abbrev pub read_variants : Tables → Generics → List variants.Variant → Result (List (List ℕ × List (List ℕ × w.Written))) Span
 read_variants t g [] = Ok []
-read_variants t g (v ∷ vs) =
-    and_then (read_placed t g 0 v.fields) (λ fs. and_then (read_variants t g vs) (λ ys. Ok ((v.name.name, fs) ∷ ys)))
+read_variants t g (v ∷ vs) = and_then (read_variant t g v) (λ y. and_then (read_variants t g vs) (λ ys. Ok (y ∷ ys)))
 
 unfoldable pub read_struct : Tables → structs.Struct → Result Declared Span
 read_struct t x =
@@ -70,15 +74,20 @@ read_enum t x =
 
 -- ---- functions
 
-abbrev pub param_types : List Param → List s.Written
-param_types xs = map (λ (x : Param). x.ty) xs
+-- the types of parameters, from left to right
+abbrev pub read_params : Tables → Generics → List Param → Result (List w.Written) Span
+read_params t g [] = Ok []
+read_params t g (x ∷ xs) = and_then (read_type t g x.ty) (λ y. and_then (read_params t g xs) (λ ys. Ok (y ∷ ys)))
 
--- the parameters are the first variables
+-- the parameters are the first variables, and in scope
 abbrev pub param_variable : Param → Variable
 param_variable x = record { name = x.name.name; span = x.name.span; mutable = x.mutable; late = false }
 
-abbrev pub beginning : List Variable → State
-beginning vs = record { scope = numbered 0 vs; variables = vs; loops = 0 }
+abbrev pub param_variables : List Param → List Variable
+param_variables xs = map param_variable xs
+
+abbrev pub beginning : List Param → State
+beginning xs = enter 0 (length (param_variables xs)) (record { scope = []; variables = param_variables xs; loops = 0 })
 
 abbrev pub function_generics : functions.Function → Generics
 function_generics f = record { lifetimes = names_of f.lifetimes; type_params = names_of f.type_params }
@@ -86,9 +95,9 @@ function_generics f = record { lifetimes = names_of f.lifetimes; type_params = n
 -- the types of the parameters and of the result, then the body
 unfoldable pub read_function : Tables → functions.Function → Result resolved.Function Span
 read_function t f =
-    and_then (read_each t (function_generics f) (param_types f.params)) (λ xs.
+    and_then (read_params t (function_generics f) f.params) (λ xs.
     and_then (read_maybe_type t (function_generics f) (s.maybewritten f.result)) (λ y.
-    and_then (read_block t (function_generics f) f.body (beginning (map param_variable f.params))) (λ b.
+    and_then (read_block t (function_generics f) f.body (beginning f.params)) (λ b.
     Ok (record {
       name = f.name.name;
       span = f.name.span;
@@ -102,19 +111,25 @@ read_function t f =
 
 -- ---- programs
 
-abbrev pub with_type : Declared → Resolved → Resolved
-with_type d x = record { types = d ∷ x.types; functions = x.functions }
+abbrev pub with_type : Resolved → Declared → Resolved
+with_type x d = record { types = x.types ++ d ∷ []; functions = x.functions }
 
-abbrev pub with_function : resolved.Function → Resolved → Resolved
-with_function f x = record { types = x.types; functions = f ∷ x.functions }
+abbrev pub with_function : Resolved → resolved.Function → Resolved
+with_function x f = record { types = x.types; functions = x.functions ++ f ∷ [] }
 
--- the items in source order
-abbrev pub read_items : Tables → List Item → Result Resolved Span
-read_items t [] = Ok (record { types = []; functions = [] })
-read_items t (Function f ∷ is) = and_then (read_function t f) (λ x. and_then (read_items t is) (λ y. Ok (with_function x y)))
-read_items t (Struct s ∷ is) = and_then (read_struct t s) (λ x. and_then (read_items t is) (λ y. Ok (with_type x y)))
-read_items t (Enum e ∷ is) = and_then (read_enum t e) (λ x. and_then (read_items t is) (λ y. Ok (with_type x y)))
-read_items t (UseMem ∷ is) = read_items t is
+abbrev pub read_item : Tables → Resolved → Item → Result Resolved Span
+read_item t x (Function f) = and_then (read_function t f) (λ y. Ok (with_function x y))
+read_item t x (Struct s) = and_then (read_struct t s) (λ y. Ok (with_type x y))
+read_item t x (Enum e) = and_then (read_enum t e) (λ y. Ok (with_type x y))
+read_item t x UseMem = Ok x
+
+-- the items in source order, behind those before them
+abbrev pub read_items : Tables → List Item → Resolved → Result Resolved Span
+read_items t [] x = Ok x
+read_items t (i ∷ is) x = and_then (read_item t x i) (λ y. read_items t is y)
+
+abbrev pub no_items : Resolved
+no_items = record { types = []; functions = [] }
 
 abbrev pub count_functions : List Item → ℕ
 count_functions [] = 0
@@ -141,4 +156,4 @@ unless_twice (Some x) o = Err (Twice x.0 x.1)
 unfoldable pub resolution : Program → Result Resolved NameFault
 resolution prog =
     if nat_lt 4096 (count_functions prog.items) then Err (Limit Functions 4097)
-    else unless_twice (twice prog) (variables_within (read_items (tables_of prog) prog.items))
+    else unless_twice (twice prog) (variables_within (read_items (tables_of prog.items) prog.items no_items))

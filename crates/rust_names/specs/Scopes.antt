@@ -25,8 +25,11 @@ abbrev pub with_scope : List (List ℕ × ℕ) → State → State
 with_scope sc st = record { scope = sc; variables = st.variables; loops = st.loops }
 
 -- the variables from number `a` to before number `b` come into scope
+abbrev pub with_variables : ℕ → ℕ → List Variable → List (List ℕ × ℕ) → List (List ℕ × ℕ)
+with_variables a b vs sc = sc ++ numbered a (take (b - a) (drop a vs))
+
 abbrev pub enter : ℕ → ℕ → State → State
-enter a b st = with_scope (st.scope ++ numbered a (take (b - a) (drop a st.variables))) st
+enter a b st = with_scope (with_variables a b st.variables st.scope) st
 
 -- what came into scope since it had this length leaves it
 abbrev pub leave : ℕ → State → State

@@ -1,15 +1,16 @@
--- What a program declares, as uses see it (LANGUAGE.md, "Names").
-use Rattle.std.specs.Prelude.{ℕ, ◌+◌, Bool, true, false, List, [], ◌∷◌, map}
+-- What a program declares, as uses see it, gathered item by item (LANGUAGE.md, "Names").
+use Rattle.std.specs.Prelude.{ℕ, ◌+◌, Bool, true, false, List, [], ◌∷◌, ◌++◌, length, map}
 use Rattle.aen_base.specs.declared.ids.TypeId.{TypeId}
 use Rattle.rust_ast.specs.declared.ident.Ident.{Ident}
-use Rattle.rust_ast.specs.declared.program.Program.{Program}
 use Rattle.rust_ast.specs.declared.program.Item.{Item}
 use Rattle.rust_ast.specs.declared.program.Item.TheVariants.{Function, Struct, Enum, UseMem}
 use Rattle.rust_ast.specs.declared.program.Fields.{Fields}
 use Rattle.rust_ast.specs.declared.program.Fields.TheVariants as fields
+use Rattle.rust_ast.specs.declared.program.Function as functions
 use Rattle.rust_ast.specs.declared.program.Struct as structs
 use Rattle.rust_ast.specs.declared.program.Enum as enums
 use Rattle.rust_ast.specs.declared.program.Variant.{Variant}
+use Rattle.rust_names.specs.declared.gathering.Gathered.{Gathered}
 use Rattle.rust_names.specs.declared.tables.Tables.{Tables}
 use Rattle.rust_names.specs.declared.tables.TypeNames.{TypeNames}
 use Rattle.rust_names.specs.declared.tables.ValueNames.{ValueNames}
@@ -25,20 +26,6 @@ variant_names vs = map (λ (v : Variant). v.name.name) vs
 abbrev pub to_type : ℕ → TypeId
 to_type n = record { 0 = n }
 
-abbrev pub struct_names : structs.Struct → TypeNames
-struct_names s = record { name = s.name.name; is_struct = true; variants = [] }
-
-abbrev pub enum_names : enums.Enum → TypeNames
-enum_names e = record { name = e.name.name; is_struct = false; variants = variant_names e.variants }
-
--- the declared types in source order
-abbrev pub types_of : List Item → List TypeNames
-types_of [] = []
-types_of (Function f ∷ is) = types_of is
-types_of (Struct s ∷ is) = struct_names s ∷ types_of is
-types_of (Enum e ∷ is) = enum_names e ∷ types_of is
-types_of (UseMem ∷ is) = types_of is
-
 -- a struct without fields is one thing, however that is written
 abbrev pub struct_means : TypeId → Fields → Meaning
 struct_means d (fields.Named []) = means.Empty d
@@ -46,20 +33,50 @@ struct_means d (fields.Named (x ∷ xs)) = means.Named d
 struct_means d (fields.Placed []) = means.Empty d
 struct_means d (fields.Placed (x ∷ xs)) = means.Placed d
 
--- the functions and structs in source order, where the next function and the next type have these numbers
-abbrev pub values_of : ℕ → ℕ → List Item → List ValueNames
-values_of f d [] = []
-values_of f d (Function g ∷ is) = record { name = g.name.name; meaning = means.Function f } ∷ values_of (f + 1) d is
-values_of f d (Struct s ∷ is) = record { name = s.name.name; meaning = struct_means (to_type d) s.fields } ∷ values_of f (d + 1) is
-values_of f d (Enum e ∷ is) = values_of f (d + 1) is
-values_of f d (UseMem ∷ is) = values_of f d is
+-- functions are numbered in source order
+abbrev pub with_function : Gathered → functions.Function → Gathered
+with_function r f = record {
+  types = r.types;
+  values = r.values ++ record { name = f.name.name; meaning = means.Function r.functions } ∷ [];
+  mem = r.mem;
+  functions = r.functions + 1;
+}
 
-abbrev pub uses_mem : List Item → Bool
-uses_mem [] = false
-uses_mem (Function f ∷ is) = uses_mem is
-uses_mem (Struct s ∷ is) = uses_mem is
-uses_mem (Enum e ∷ is) = uses_mem is
-uses_mem (UseMem ∷ is) = true
+-- and so are declared types
+abbrev pub with_struct : Gathered → structs.Struct → Gathered
+with_struct r s = record {
+  types = r.types ++ record { name = s.name.name; is_struct = true; variants = [] } ∷ [];
+  values = r.values ++ record { name = s.name.name; meaning = struct_means (to_type (length r.types)) s.fields } ∷ [];
+  mem = r.mem;
+  functions = r.functions;
+}
 
-abbrev pub tables_of : Program → Tables
-tables_of prog = record { types = types_of prog.items; values = values_of 0 0 prog.items; mem = uses_mem prog.items }
+abbrev pub with_enum : Gathered → enums.Enum → Gathered
+with_enum r e = record {
+  types = r.types ++ record { name = e.name.name; is_struct = false; variants = variant_names e.variants } ∷ [];
+  values = r.values;
+  mem = r.mem;
+  functions = r.functions;
+}
+
+abbrev pub with_mem : Gathered → Gathered
+with_mem r = record { types = r.types; values = r.values; mem = true; functions = r.functions }
+
+abbrev pub with_item : Gathered → Item → Gathered
+with_item r (Function f) = with_function r f
+with_item r (Struct s) = with_struct r s
+with_item r (Enum e) = with_enum r e
+with_item r UseMem = with_mem r
+
+abbrev pub gather : List Item → Gathered → Gathered
+gather [] r = r
+gather (i ∷ is) r = gather is (with_item r i)
+
+abbrev pub nothing : Gathered
+nothing = record { types = []; values = []; mem = false; functions = 0 }
+
+abbrev pub as_tables : Gathered → Tables
+as_tables r = record { types = r.types; values = r.values; mem = r.mem }
+
+abbrev pub tables_of : List Item → Tables
+tables_of is = as_tables (gather is nothing)

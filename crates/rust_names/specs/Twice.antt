@@ -18,7 +18,7 @@ use Rattle.rust_names.specs.declared.entry.Kind.{Kind}
 use Rattle.rust_names.specs.declared.entry.Kind.TheVariants as kind
 use Rattle.rust_names.specs.declared.tables.ValueNames.{ValueNames}
 use Rattle.rust_names.specs.Finding.{find, or_else}
-use Rattle.rust_names.specs.Tables.{values_of}
+use Rattle.rust_names.specs.Tables.{tables_of}
 use Rattle.rust_names.specs.Lookups.{empty_struct}
 
 -- the two places, the earlier one first
@@ -235,4 +235,4 @@ twice_in_items vs seen (i ∷ is) =
     or_else (twice_in_item vs seen i) (twice_in_items vs (seen ++ own_entry i ++ entries kind.Parameter (item_parameters i)) is)
 
 unfoldable pub twice : Program → Pair
-twice prog = twice_in_items (values_of 0 0 prog.items) [] prog.items
+twice prog = twice_in_items (tables_of prog.items).values [] prog.items

@@ -4,8 +4,15 @@
 mod by_name;
 mod entry;
 mod fault;
+mod gathering;
+mod items;
 mod lookups;
+mod path_uses;
+mod pattern_uses;
+mod scope;
 mod state;
 mod tables;
+mod type_uses;
+mod uses;
 
 pub use fault::NameFault;

@@ -1,12 +1,12 @@
 //! What a name means, as a declared type, a function, a constructor or a variant.
 
-ghost use Rattle.std.specs.Prelude.{◌≡◌, IfOk};
+ghost use Rattle.std.specs.Prelude.{◌≡◌, slice_get, IfOk};
 ghost use Rattle.rust_names.specs.Lookups as spec;
-ghost use Rattle.rust_names.specs.Gives.{Gives, IsNumber};
+ghost use Rattle.rust_names.specs.Gives.{Gives};
 
 use crate::fault::Stop;
 use crate::tables::{Generics, Meaning, Tables};
-use aen_base::{Name, Span, TypeId, at};
+use aen_base::{Name, NoMem, Span, TypeId, at};
 use rust_ast::Ident;
 
 /// What a name means as a type.
@@ -19,12 +19,12 @@ pub(crate) enum TypeMeaning {
 }
 
 /// A place as a number of 32 bits. More things than that fit in no memory of a program.
-pub(crate) fn number(place: usize) -> Result<u32, Stop>
-    ensures { IsNumber place result }
+pub(crate) fn number(place: usize) -> Result<u32, NoMem>
+    ensures { IfOk result (λ n. n ≡ place) }
 {
     match u32::try_from(place) {
         Ok(number) => Ok(number),
-        Err(_) => Err(Stop::Memory),
+        Err(_) => Err(NoMem),
     }
 }
 
@@ -47,16 +47,10 @@ pub(crate) fn type_meaning(
     ensures { Gives (spec.type_meaning tables.now generics.now name.now) result }
 {
     if let Some(place) = generics.type_params.place_of(&name.name) {
-        return match number(place) {
-            Ok(number) => Ok(TypeMeaning::Parameter(number)),
-            Err(stop) => Err(stop),
-        };
+        return Ok(TypeMeaning::Parameter(number(place)?));
     }
     match tables.types.place_of(&name.name) {
-        Some(place) => match number(place) {
-            Ok(number) => Ok(TypeMeaning::Declared(TypeId(number))),
-            Err(stop) => Err(stop),
-        },
+        Some(place) => Ok(TypeMeaning::Declared(TypeId(number(place)?))),
         None => Err(Stop::Unknown(name.span)),
     }
 }
@@ -101,16 +95,20 @@ pub(crate) fn variant_of(
 ) -> Result<(TypeId, u32), Stop>
     ensures { Gives (spec.known name.now.span (spec.variant_of tables.now ty name.now.name)) result }
 {
-    let TypeMeaning::Declared(id) = ty else {
-        return Err(Stop::Unknown(name.span));
-    };
-    let Some(declared) = at(tables.types.as_slice(), id.0 as usize) else {
-        return Err(Stop::Unknown(name.span));
-    };
-    match declared.variants.place_of(&name.name) {
-        Some(place) => match number(place) {
-            Ok(variant) => Ok((id, variant)),
-            Err(stop) => Err(stop),
+    match ty {
+        TypeMeaning::Parameter(_) => Err(Stop::Unknown(name.span)),
+        TypeMeaning::Declared(id) => variant_at(tables, id, name),
+    }
+}
+
+/// The variant of a declared type.
+fn variant_at(tables: &Tables, id: TypeId, name: &Ident) -> Result<(TypeId, u32), Stop>
+    ensures { Gives (spec.known name.now.span (spec.variant_at id name.now.name (slice_get tables.now.types id.0))) result }
+{
+    match at(tables.types.as_slice(), id.0 as usize) {
+        Some(declared) => match declared.variants.place_of(&name.name) {
+            Some(place) => Ok((id, number(place)?)),
+            None => Err(Stop::Unknown(name.span)),
         },
         None => Err(Stop::Unknown(name.span)),
     }
@@ -125,10 +123,7 @@ pub(crate) fn struct_of(tables: &Tables, name: &Ident) -> Result<TypeId, Stop>
             if !declared.is_struct {
                 return Err(Stop::Unknown(name.span));
             }
-            match number(place) {
-                Ok(number) => Ok(TypeId(number)),
-                Err(stop) => Err(stop),
-            }
+            Ok(TypeId(number(place)?))
         }
         None => Err(Stop::Unknown(name.span)),
     }
@@ -143,4 +138,11 @@ pub(crate) fn swap_place(tables: &Tables, path: Span, mem: Span, std: bool) -> R
     } else {
         Err(Stop::Unknown(mem))
     }
+}
+
+/// Where the path of a function of `mem` that isn't called is declared nowhere.
+pub(crate) fn uncalled_place(tables: &Tables, path: Span, mem: Span, std: bool) -> Span
+    ensures { result ≡ spec.uncalled_place tables.now path mem std }
+{
+    if std || tables.mem { path } else { mem }
 }
