@@ -1,4 +1,5 @@
 mod Entries
 mod Fronts
+mod Logs
 pub mod Rising
 pub mod Writings

@@ -1,6 +1,6 @@
 -- Two writes in a row.
-use Rattle.std.proofs.Common.{◌≡◌, ℕ, List, [], ◌++◌, Option, None, Some, ap, ◌∙◌, sym, subst, append_assoc, take, drop, ◌+◌, ◌≤◌, length, ◌-◌, length-drop, arith}
-use Rattle.std.proofs.lemmas.List.{append-nil, take-append-drop, take-take, drop-take, take_rest}
+use Rattle.std.proofs.Common.{◌≡◌, ℕ, List, ◌++◌, ap, ◌∙◌, sym, subst, append_assoc, take, drop, ◌+◌, ◌≤◌, length, ◌-◌, length-drop, arith}
+use Rattle.std.proofs.lemmas.List.{take-append-drop, take-take, drop-take, take_rest}
 use Rattle.aen_io.specs.Written.{WritesAll}
 
 -- a list's front of k + n items, in two parts
@@ -10,16 +10,10 @@ take_add k n xs =
     let rest = drop-take k n xs in
     (λ i. sym front i ++ sym rest i) ∙ take-append-drop k (take (k + n) xs)
 
-pub writes_more : (a b c : Option (List ℕ)) (x y : List ℕ) → WritesAll a b x → WritesAll b c y → WritesAll a c (x ++ y)
-writes_more None b c x y p q = tt
-writes_more (Some old) b c x y p q =
-    let r : WritesAll (Some (old ++ x)) c y = subst (λ t. WritesAll t c y) p q in
-    r ∙ ap Some (append_assoc old x y)
+pub writes_more : (a b c x y : List ℕ) → WritesAll a b x → WritesAll b c y → WritesAll a c (x ++ y)
+writes_more a b c x y p q = q ∙ ap (λ xs. xs ++ y) p ∙ append_assoc a x y
 
-pub writes_none : (a b c : Option (List ℕ)) (x : List ℕ) → WritesAll a b x → WritesAll b c [] → WritesAll a c x
-writes_none a b c x p q = subst (λ t. WritesAll a c t) (append-nil x) (writes_more a b c x [] p q)
-
-pub writes_turn : (a b c : Option (List ℕ)) (bytes : List ℕ) (done n : ℕ)
+pub writes_turn : (a b c bytes : List ℕ) (done n : ℕ)
     → WritesAll a b (take done bytes) → WritesAll b c (take n (take (length bytes - done) (drop done bytes)))
     → WritesAll a c (take (done + n) bytes)
 writes_turn a b c bytes done n p q =

@@ -4,3 +4,4 @@ pub mod Written
 pub mod Reading
 pub mod Turns
 pub mod InMemory
+pub mod Handed

@@ -1,13 +1,12 @@
--- What a call adds to the bytes that a sink holds, where it tells them.
-use Rattle.std.specs.Prelude.{◌≡◌, ℕ, List, ◌++◌, take, Option, None, Some}
+-- What a call adds to the bytes that a sink took.
+use Rattle.std.specs.Prelude.{◌≡◌, ℕ, List, ◌++◌, take}
 
--- the sink's bytes are the old ones followed by exactly this text
+-- the bytes that were taken are the old ones followed by exactly this text
 -- (PROMISES.md, "Safe and total")
-abbrev pub WritesAll : Option (List ℕ) → Option (List ℕ) → List ℕ → Type 0
-WritesAll None new text = Unit {0}
-WritesAll (Some old) new text = new ≡ Some (old ++ text)
+abbrev pub WritesAll : List ℕ → List ℕ → List ℕ → Type 0
+WritesAll old new text = new ≡ old ++ text
 
--- the sink's bytes are the old ones followed by a prefix of this text
+-- the bytes that were taken are the old ones followed by a prefix of this text
 -- (PROMISES.md, "Safe and total")
-abbrev pub WritesPart : Option (List ℕ) → Option (List ℕ) → List ℕ → Type 0
+abbrev pub WritesPart : List ℕ → List ℕ → List ℕ → Type 0
 WritesPart old new text = (n : ℕ) × WritesAll old new (take n text)

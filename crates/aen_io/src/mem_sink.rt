@@ -58,9 +58,7 @@ impl MemSink {
 }
 
 impl Sink for MemSink {
-    ghost use Rattle.std.specs.Prelude.{Some};
-
-    ghost written = { λ s. Some s.bytes };
+    ghost taken = { λ s. s.bytes };
 
     ghost faults = { λ s. s.plan.faults };
 
@@ -72,9 +70,9 @@ impl Sink for MemSink {
         ensures same_room { self.new.room ≡ self.old.room }
         ensures later { self.old.plan.faults ≤ self.new.plan.faults }
         ensures bound { IfOk result (λ n. n ≤ length piece.now) }
-        ensures taken { IfOk result (λ n. WritesAll (Some self.old.bytes) (Some self.new.bytes) (take n piece.now)) }
+        ensures takes { IfOk result (λ n. WritesAll self.old.bytes self.new.bytes (take n piece.now)) }
         ensures stuck { IfOk result (λ n. n ≡ 0 → 0 < length piece.now → Rose self.old.plan.faults self.new.plan.faults) }
-        ensures nothing { OnErr result (WritesAll (Some self.old.bytes) (Some self.new.bytes) []) }
+        ensures nothing { OnErr result (WritesAll self.old.bytes self.new.bytes []) }
         ensures failed { OnErr result (Rose self.old.plan.faults self.new.plan.faults) }
     {
         let left = self.room - self.bytes.len();

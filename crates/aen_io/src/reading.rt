@@ -1,7 +1,8 @@
 ghost use Rattle.std.specs.Prelude.{◌≡◌, ◌<◌, ◌≤◌, ◌^◌, ◌+◌, [], length, vec_len, IfOk, IfErr, OnOk};
+ghost use Rattle.aen_io.specs.Handed.{ReadsInOrder, since};
 ghost use Rattle.aen_io.specs.Told.{OfContent};
-ghost use Rattle.aen_io.specs.Reading.{IsCause};
-ghost use Rattle.aen_io.specs.Turns.{IsFault, GoesOn};
+ghost use Rattle.aen_io.specs.Reading.{IsWhole, IsCause};
+ghost use Rattle.aen_io.specs.Turns.{IsFault, Adds, GoesOn};
 
 use crate::{Failed, Files};
 use aen_base::NoMem;
@@ -55,12 +56,14 @@ impl From<AllocError> for ReadAll {
 /// The most bytes that are asked for at once.
 const PIECE: usize = 65_536;
 
-/// Reads a whole file of at most `limit` bytes.
+/// Reads a whole file of at most `limit` bytes: Ok is exactly the bytes that were handed out in
+/// this call, from the file's first byte to its end, each read beginning where the one before it
+/// ended. Where content is told, they are the content.
 ///
 /// `Failed` comes only where a fault was counted in this call, or where content is told and the
-/// name isn't there. `TooLong(limit + 1)` comes exactly where that many bytes were read. `Memory`
-/// is want of memory. Every turn but the last reads at least one byte, so there are at most
-/// `limit + 2` turns.
+/// name isn't there. `TooLong(limit + 1)` comes exactly where that many bytes were handed out.
+/// `Memory` is want of memory. Every read but the last hands out at least one byte, so there are
+/// at most `limit + 1` that hand out, and one that fails.
 pub fn read_all<F: Files>(
     alloc: Global,
     files: &mut F,
@@ -70,9 +73,12 @@ pub fn read_all<F: Files>(
     requires { limit < 2 ^ 63 }
     ensures kept { F.told files.new ≡ F.told files.old }
     ensures later { F.faults files.old ≤ F.faults files.new }
-    ensures whole { IfOk result (λ v. OfContent (F.told files.old) name.now (λ c. v.items ≡ c)) }
+    ensures reads { ReadsInOrder name.now (F.handed files.old) (F.handed files.new) }
+    ensures calls { length (since (F.handed files.old) (F.handed files.new)) ≤ limit + 1 }
+    ensures whole { IfOk result (λ v. IsWhole name.now (since (F.handed files.old) (F.handed files.new)) v.items) }
+    ensures content { IfOk result (λ v. OfContent (F.told files.old) name.now (λ c. v.items ≡ c)) }
     ensures within { IfOk result (λ v. vec_len v ≤ limit) }
-    ensures cause { IfErr result (IsCause (F.told files.old) name.now limit (F.faults files.old) (F.faults files.new)) }
+    ensures cause { IfErr result (IsCause (F.told files.old) name.now limit (since (F.handed files.old) (F.handed files.new)) (F.faults files.old) (F.faults files.new)) }
 {
     let mut buf = vec![in alloc; 0u8; PIECE]?;
     let mut whole = Vec::new(alloc);
@@ -93,9 +99,12 @@ fn read_turns<F: Files>(
     requires empty { whole.old.items ≡ [] }
     ensures kept { F.told files.new ≡ F.told files.old }
     ensures later { F.faults files.old ≤ F.faults files.new }
-    ensures whole { OnOk result (OfContent (F.told files.old) name.now (λ c. whole.new.items ≡ c)) }
+    ensures reads { ReadsInOrder name.now (F.handed files.old) (F.handed files.new) }
+    ensures calls { length (since (F.handed files.old) (F.handed files.new)) ≤ limit + 1 }
+    ensures whole { OnOk result (IsWhole name.now (since (F.handed files.old) (F.handed files.new)) whole.new.items) }
+    ensures content { OnOk result (OfContent (F.told files.old) name.now (λ c. whole.new.items ≡ c)) }
     ensures within { OnOk result (vec_len whole.new ≤ limit) }
-    ensures cause { IfErr result (IsCause (F.told files.old) name.now limit (F.faults files.old) (F.faults files.new)) }
+    ensures cause { IfErr result (IsCause (F.told files.old) name.now limit (since (F.handed files.old) (F.handed files.new)) (F.faults files.old) (F.faults files.new)) }
 {
     // One byte above the limit shows that the file is too long.
     let most = limit as usize + 1;
@@ -122,7 +131,8 @@ fn read_more<F: Files>(
     ensures bound { IfOk result (λ n. n ≤ length piece.old) }
     ensures more { IfOk result (λ n. vec_len whole.new ≡ vec_len whole.old + n) }
     ensures bytes { IfOk result (λ n. OfContent (F.told files.old) name.now (λ c. GoesOn c n (length piece.old) whole.old.items whole.new.items)) }
-    ensures cause { IfErr result (IsFault (F.told files.old) name.now (F.faults files.old) (F.faults files.new)) }
+    ensures call { IfOk result (λ n. Adds name.now (F.handed files.old) (F.handed files.new) n whole.old.items whole.new.items) }
+    ensures cause { IfErr result (IsFault (F.told files.old) name.now (vec_len whole.old) (F.handed files.old) (F.handed files.new) (F.faults files.old) (F.faults files.new)) }
 {
     let n = files.read_at(name, whole.len() as u64, piece)?;
     whole.extend_from_slice(&piece[..n])?;

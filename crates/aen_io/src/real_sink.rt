@@ -1,30 +1,34 @@
-ghost use Rattle.std.specs.Prelude.{◌≡◌};
+ghost use Rattle.std.specs.Prelude.{◌≡◌, []};
 
-use crate::{Failed, Sink};
+use crate::{Failed, Sink, WriteLog};
 use std::io::Write;
 
-/// A writer of the system as a sink, as standard output. It tells no bytes; each error of the
+/// A writer of the system as a sink, as standard output. Each error of the
 /// writer, and each write that takes nothing of a piece that isn't empty, is a fault that is
 /// counted. The writer is to keep no bytes back, since it isn't flushed.
 #[derive(Drop)]
 pub struct RealSink<W> {
     writer: W,
     faults: u64,
+    log: WriteLog,
 }
 
 impl<W: Write> RealSink<W> {
     /// A sink that writes to this writer. It writes nothing yet.
     pub fn new(writer: W) -> RealSink<W>
-        ensures { result.faults ≡ 0 }
+        ensures faults { result.faults ≡ 0 }
+        ensures taken { result.log.taken ≡ [] }
     {
-        RealSink { writer, faults: 0 }
+        RealSink {
+            writer,
+            faults: 0,
+            log: WriteLog::new(),
+        }
     }
 }
 
 impl<W: Write> Sink for RealSink<W> {
-    ghost use Rattle.std.specs.Prelude.{None};
-
-    ghost written = { λ _. None };
+    ghost taken = { λ s. s.log.taken };
 
     ghost faults = { λ s. s.faults };
 
@@ -34,6 +38,7 @@ impl<W: Write> Sink for RealSink<W> {
                 if n == 0 && !piece.is_empty() {
                     self.faults = self.faults.saturating_add(1);
                 }
+                self.log.note(&piece[..n]);
                 Ok(n)
             }
             Err(_) => {

@@ -4,12 +4,12 @@ ghost use Rattle.aen_io.specs.Written.{WritesAll, WritesPart};
 
 use crate::{Failed, Sink};
 
-/// Writes all of `bytes`. `Failed` comes only where a fault was counted in this call; then a
-/// prefix of `bytes` was written. It takes no memory.
+/// Writes all of `bytes`: the sink takes exactly them. `Failed` comes only where a fault was counted in this call; then a
+/// prefix of `bytes` was taken. It takes no memory.
 pub fn write_all<K: Sink>(out: &mut K, bytes: &[u8]) -> Result<(), Failed>
     ensures later { K.faults out.old ≤ K.faults out.new }
-    ensures all { OnOk result (WritesAll (K.written out.old) (K.written out.new) bytes.now) }
-    ensures part { OnErr result (WritesPart (K.written out.old) (K.written out.new) bytes.now) }
+    ensures all { OnOk result (WritesAll (K.taken out.old) (K.taken out.new) bytes.now) }
+    ensures part { OnErr result (WritesPart (K.taken out.old) (K.taken out.new) bytes.now) }
     ensures failed { OnErr result (Rose (K.faults out.old) (K.faults out.new)) }
 {
     let mut done = 0;

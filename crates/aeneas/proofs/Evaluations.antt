@@ -16,7 +16,8 @@ use Rattle.text_meaning.specs.Evaluate.{evaluate}
 use Rattle.aeneas.specs.DefinitionWord.{IsDefinitionWord}
 use Rattle.aeneas.specs.DefinitionParts.{IsOnly}
 use Rattle.aeneas.specs.Eval.{AnswerReply, ArgFaultReply, EvaluationReply}
-use Rattle.aeneas.specs.Lines.{count_line}
+use Rattle.aeneas.specs.declared.refusal.Refusal.TheVariants as R
+use Rattle.aeneas.specs.Refusals.{IsRefusal}
 use Rattle.aeneas.specs.Words.{IsShort}
 use Rattle.aeneas.proofs.WordLemmas.{all_unmapped, len_by_short}
 
@@ -39,17 +40,16 @@ within (y ∷ xs) (suc k) x h = let r = within xs k x h in omega arith
 module _ (defs : Defs) (k : ℕ) (d : Def) (found : slice_get defs.defs k ≡ Some d) (pieces words : List (List ℕ)) (n status : ℕ) (text : List ℕ) where
   -- words that are no types or arguments
   pub refused : (fault : ArgFault) → IsReadingAt defs d pieces words (Err fault) → ArgFaultReply fault status text → EvaluationReply defs k pieces words n status text
-  refused W.Types h r = record { definition = d; found = found; reply = inl (record { status_is = r.0; line = r.1; cause = h }) }
+  refused W.Types h r = record { definition = d; found = found; reply = inl (record { refusal = r; cause = h }) }
   refused (W.WrongCount expected given) h r =
       let count : length (parameter_types d h.0) ≡ length d.params = same_length _ d.params in
       record {
         definition = d;
         found = found;
         reply = inr (inl (record {
-          status_is = r.0;
           args = h.0;
           types = h.1.0;
-          line = r.1 ∙ ap (λ e. count_line e given) (h.1.1.1 ∙ count) ∙ ap (count_line (length d.params)) h.1.1.2;
+          refusal = subst (λ g. IsRefusal (R.Count (length d.params) g) status text) h.1.1.2 (subst (λ e. IsRefusal (R.Count e given) status text) (h.1.1.1 ∙ count) r);
           cause = λ e. h.1.1.0 (count ∙ e);
         }));
       }
@@ -59,12 +59,11 @@ module _ (defs : Defs) (k : ℕ) (d : Def) (found : slice_get defs.defs k ≡ So
         definition = d;
         found = found;
         reply = inr (inr (inl (record {
-          status_is = r.0;
           args = h.0;
           types = h.1.0;
           count = sym count ∙ h.1.1.0;
           place = i;
-          line = r.1;
+          refusal = r;
           cause = h.1.1.1;
         })));
       }

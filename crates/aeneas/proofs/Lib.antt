@@ -5,3 +5,4 @@ pub mod Forms
 pub mod DefinitionWords
 pub mod Evaluations
 pub mod Replying
+pub mod Headlines

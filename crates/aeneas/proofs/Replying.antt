@@ -2,16 +2,27 @@
 use Rattle.std.proofs.Common.{◌≡◌, ap, sym, subst, ◌∙◌, ℕ, List, ◌∷◌}
 use Rattle.std.specs.Prelude.{All, codes}
 use Rattle.std.proofs.lemmas.List.Elements.{All-head, All-tail}
-use Rattle.aen_io.specs.Told.{Told}
 use Rattle.aeneas.specs.Eval.{EvalReply}
 use Rattle.aeneas.specs.Parsed.{IsRunCommand, IsEvalCommand}
+use Rattle.aeneas.specs.declared.refusal.Refusal.TheVariants as R
+use Rattle.aeneas.specs.Refusals.{IsRefusal}
 use Rattle.aeneas.specs.Reply.{IsReply}
 use Rattle.aeneas.specs.Run.{RunReply}
-use Rattle.aeneas.specs.Words.{IsShort, IsRun, IsEval, fuel_of}
+use Rattle.aeneas.specs.Seen.{Seen, ReadsNothing}
+use Rattle.aeneas.specs.Words.{IsShort, IsRun, IsEval, HasNoForm, fuel_of}
 
-module _ (words : List (List ℕ)) (told : Told) (file name : List ℕ) (fuel : ℕ) (values : List (List ℕ)) (before after status : ℕ) (text : List ℕ) where
-  run_same : (c : IsRunCommand words file name fuel values) → RunReply told file name values fuel before after status text →
-      (f n w : List ℕ) (vs : List (List ℕ)) → IsRun words f n w vs → RunReply told f n vs (fuel_of w) before after status text
+-- words without a form
+pub misused : (words : List (List ℕ)) (s : Seen) (status : ℕ) (text : List ℕ) → HasNoForm words → ReadsNothing s → IsRefusal R.Usage status text → IsReply words s status text
+misused words s status text none unread h = record {
+  usage = λ _. record { refusal = h; unread = unread };
+  translate = λ f t. absurd (none.translate f t);
+  run = λ f n w vs r. absurd (none.run f n w vs r);
+  eval = λ f n w vs r. absurd (none.eval f n w vs r);
+}
+
+module _ (words : List (List ℕ)) (s : Seen) (file name : List ℕ) (fuel : ℕ) (values : List (List ℕ)) (status : ℕ) (text : List ℕ) where
+  run_same : (c : IsRunCommand words file name fuel values) → RunReply s file name values fuel status text →
+      (f n w : List ℕ) (vs : List (List ℕ)) → IsRun words f n w vs → RunReply s f n vs (fuel_of w) status text
   run_same c h f n w vs r =
       let e = sym c.run.words_are ∙ r.words_are in
       let a : file ≡ f = cc in
@@ -19,10 +30,10 @@ module _ (words : List (List ℕ)) (told : Told) (file name : List ℕ) (fuel : 
       let d : c.word ≡ w = cc in
       let g : values ≡ vs = cc in
       let m : fuel ≡ fuel_of w = c.number ∙ ap fuel_of d in
-      (coe 0 1 (i. RunReply told (a i) (b i) (g i) (m i) before after status text) h)
+      (coe 0 1 (i. RunReply s (a i) (b i) (g i) (m i) status text) h)
 
-  eval_same : (c : IsEvalCommand words file name fuel values) → EvalReply told file name values fuel before after status text →
-      (f n w : List ℕ) (vs : List (List ℕ)) → IsEval words f n w vs → EvalReply told f n vs (fuel_of w) before after status text
+  eval_same : (c : IsEvalCommand words file name fuel values) → EvalReply s file name values fuel status text →
+      (f n w : List ℕ) (vs : List (List ℕ)) → IsEval words f n w vs → EvalReply s f n vs (fuel_of w) status text
   eval_same c h f n w vs r =
       let e = sym c.eval.words_are ∙ r.words_are in
       let a : file ≡ f = cc in
@@ -30,9 +41,9 @@ module _ (words : List (List ℕ)) (told : Told) (file name : List ℕ) (fuel : 
       let d : c.word ≡ w = cc in
       let g : values ≡ vs = cc in
       let m : fuel ≡ fuel_of w = c.number ∙ ap fuel_of d in
-      (coe 0 1 (i. EvalReply told (a i) (b i) (g i) (m i) before after status text) h)
+      (coe 0 1 (i. EvalReply s (a i) (b i) (g i) (m i) status text) h)
 
-  pub run_reply : IsRunCommand words file name fuel values → RunReply told file name values fuel before after status text → IsReply words told before after status text
+  pub run_reply : IsRunCommand words file name fuel values → RunReply s file name values fuel status text → IsReply words s status text
   run_reply c h = record {
     usage = λ none. absurd (none.run file name c.word values c.run);
     translate = λ f t. (let e = sym c.run.words_are ∙ t.words_are in absurd cc);
@@ -40,7 +51,7 @@ module _ (words : List (List ℕ)) (told : Told) (file name : List ℕ) (fuel : 
     eval = λ f n w vs r. (let e = sym c.run.words_are ∙ r.words_are in absurd cc);
   }
 
-  pub eval_reply : IsEvalCommand words file name fuel values → EvalReply told file name values fuel before after status text → IsReply words told before after status text
+  pub eval_reply : IsEvalCommand words file name fuel values → EvalReply s file name values fuel status text → IsReply words s status text
   eval_reply c h = record {
     usage = λ none. absurd (none.eval file name c.word values c.eval);
     translate = λ f t. (let e = sym c.eval.words_are ∙ t.words_are in absurd cc);

@@ -1,6 +1,6 @@
 -- What `eval` answers (PROMISES.md, "Safe and total" and "Each tool meets its meaning").
 use Rattle.std.specs.Prelude.{◌≡◌, ℕ, ◌≤◌, ◌^◌, ◌⊎◌, List, length, Some, slice_get}
-use Rattle.aen_io.specs.Told.{Told}
+use Rattle.aen_base.specs.declared.limits.Which.TheVariants as L
 use Rattle.lean_reader.specs.declared.arguments.ArgFault.{ArgFault}
 use Rattle.lean_reader.specs.declared.arguments.ArgFault.TheVariants as W
 use Rattle.lean_reader.specs.NamedDefinitions.{IsNamed, NoneNamed}
@@ -15,9 +15,13 @@ use Rattle.text_meaning.specs.Evaluate.{evaluate}
 use Rattle.text_meaning.specs.ShownTerms.{term_text}
 use Rattle.text_meaning.specs.ValueTerms.{value_term}
 use Rattle.aeneas.specs.DefinitionWord.{IsDefinitionWord}
-use Rattle.aeneas.specs.Lines.{count_line, argument_line, types_line, name_line, ok_line, fail_line, out_of_fuel_line, stuck_line}
+use Rattle.aeneas.specs.declared.refusal.Refusal.TheVariants as R
+use Rattle.aeneas.specs.Limits.{greatest}
+use Rattle.aeneas.specs.Lines.{ok_line, fail_line, out_of_fuel_line, stuck_line}
 use Rattle.aeneas.specs.Printed.{TextRefusal, IsPrinted}
-use Rattle.aeneas.specs.Run.{HasMuchFuel, fuel_limit}
+use Rattle.aeneas.specs.Refusals.{IsRefusal, IsRefusedBy}
+use Rattle.aeneas.specs.Run.{HasMuchFuel}
+use Rattle.aeneas.specs.Seen.{Seen}
 
 -- 0, 20, 21, 22: the answer's line
 abbrev pub AnswerReply : Defs → Answer → ℕ → List ℕ → Type 0
@@ -26,35 +30,32 @@ AnswerReply defs (A.Fail kind) status text = (status ≡ 20) × (text ≡ fail_l
 AnswerReply defs A.OutOfFuel status text = (status ≡ 21) × (text ≡ out_of_fuel_line)
 AnswerReply defs A.Stuck status text = (status ≡ 22) × (text ≡ stuck_line)
 
--- the line of words that are no types or arguments
+-- the refusal of words that are no types or arguments
 abbrev pub ArgFaultReply : ArgFault → ℕ → List ℕ → Type 0
-ArgFaultReply W.Types status text = (status ≡ 11) × (text ≡ types_line)
-ArgFaultReply (W.WrongCount expected given) status text = (status ≡ 11) × (text ≡ count_line expected given)
-ArgFaultReply (W.BadValue place) status text = (status ≡ 11) × (text ≡ argument_line place)
+ArgFaultReply W.Types status text = IsRefusal R.Types status text
+ArgFaultReply (W.WrongCount expected given) status text = IsRefusal (R.Count expected given) status text
+ArgFaultReply (W.BadValue place) status text = IsRefusal (R.Argument place) status text
 ArgFaultReply W.Memory status text = ⊥
 
 -- 11: the pieces are no type arguments of the definition
 pub record HasBadTypes (defs : Defs) (d : Def) (pieces : List (List ℕ)) (status : ℕ) (text : List ℕ) : Type 0 where
-  pub status_is : status ≡ 11
-  pub line : text ≡ types_line
+  pub refusal : IsRefusal R.Types status text
   pub cause : (args : List PTy) → AreTypeArguments defs d pieces args → ⊥
 
 -- 11: they are, and the words after FUEL are not as many as the parameters
 pub record IsMiscalled (defs : Defs) (d : Def) (pieces words : List (List ℕ)) (status : ℕ) (text : List ℕ) : Type 0 where
-  pub status_is : status ≡ 11
   pub args : List PTy
   pub types : AreTypeArguments defs d pieces args
-  pub line : text ≡ count_line (length d.params) (length words)
+  pub refusal : IsRefusal (R.Count (length d.params) (length words)) status text
   pub cause : length d.params ≡ length words → ⊥
 
 -- 11: they are as many, and this is the first that is no value of its type
 pub record HasBadWord (defs : Defs) (d : Def) (pieces words : List (List ℕ)) (status : ℕ) (text : List ℕ) : Type 0 where
-  pub status_is : status ≡ 11
   pub args : List PTy
   pub types : AreTypeArguments defs d pieces args
   pub count : length d.params ≡ length words
   pub place : ℕ
-  pub line : text ≡ argument_line place
+  pub refusal : IsRefusal (R.Argument place) status text
   pub cause : IsFirstBad defs (parameter_types d args) words place
 
 -- the definition's answer on the values that the words write
@@ -74,8 +75,7 @@ pub record EvaluationReply (defs : Defs) (k : ℕ) (pieces words : List (List �
 
 -- 13: the word isn't of the form, or no definition has its name
 pub record HasNoDefinition (defs : Defs) (word : List ℕ) (status : ℕ) (text : List ℕ) : Type 0 where
-  pub status_is : status ≡ 13
-  pub line : text ≡ name_line
+  pub refusal : IsRefusal R.Name status text
   pub cause : (name : List ℕ) (pieces : List (List ℕ)) → IsDefinitionWord word name pieces → NoneNamed defs name (2 ^ 32)
 
 -- the definition with the word's name and types
@@ -91,17 +91,16 @@ abbrev pub DefsReply : Defs → List ℕ → List (List ℕ) → ℕ → ℕ →
 DefsReply defs word words n status text = HasNoDefinition defs word status text ⊎ IsEvaluated defs word words n status text
 
 -- the file is definitions, and this is what they answer
-pub record IsEvalOf (told : Told) (file word : List ℕ) (words : List (List ℕ)) (n status : ℕ) (text : List ℕ) : Type 0 where
+pub record IsEvalOf (s : Seen) (file word : List ℕ) (words : List (List ℕ)) (n status : ℕ) (text : List ℕ) : Type 0 where
   pub defs : Defs
-  pub source : IsPrinted told file defs
+  pub source : IsPrinted s file defs
   pub reply : DefsReply defs word words n status text
 
 -- the file is read and is no printed text, or it is evaluated
-pub record IsEvalWithinFuel (told : Told) (file word : List ℕ) (words : List (List ℕ)) (n before after status : ℕ) (text : List ℕ) : Type 0 where
-  pub few : n ≤ fuel_limit
-  pub reply : TextRefusal told file before after status text ⊎ IsEvalOf told file word words n status text
+pub record IsEvalWithinFuel (s : Seen) (file word : List ℕ) (words : List (List ℕ)) (n status : ℕ) (text : List ℕ) : Type 0 where
+  pub few : n ≤ greatest L.Fuel
+  pub reply : IsRefusedBy (TextRefusal s file) status text ⊎ IsEvalOf s file word words n status text
 
 -- `eval FILE DEF FUEL VALUE..`
-abbrev pub EvalReply : Told → List ℕ → List ℕ → List (List ℕ) → ℕ → ℕ → ℕ → ℕ → List ℕ → Type 0
-EvalReply told file word words n before after status text =
-    HasMuchFuel n status text ⊎ IsEvalWithinFuel told file word words n before after status text
+abbrev pub EvalReply : Seen → List ℕ → List ℕ → List (List ℕ) → ℕ → ℕ → List ℕ → Type 0
+EvalReply s file word words n status text = HasMuchFuel s n status text ⊎ IsEvalWithinFuel s file word words n status text

@@ -1,5 +1,8 @@
 pub mod Words
 pub mod Lines
+pub mod Limits
+pub mod Refusals
+pub mod Seen
 pub mod Translation
 pub mod Source
 pub mod Run

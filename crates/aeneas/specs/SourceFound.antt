@@ -1,15 +1,16 @@
--- What is found of a source: its program, or the reply of its refusal.
-use Rattle.std.specs.Prelude.{◌≡◌, ℕ, List}
-use Rattle.aen_io.specs.Told.{Told}
+-- What is found of a source: its program, or its refusal.
+use Rattle.std.specs.Prelude.{ℕ, List}
 use Rattle.aeneas.specs.declared.source.Source.{Source}
 use Rattle.aeneas.specs.declared.source.Source.TheVariants.{Read, Refused}
-use Rattle.aeneas.specs.Lines.{syntax_line}
+use Rattle.aeneas.specs.Seen.{Seen}
 use Rattle.aeneas.specs.Source.{SourceRefusal, IsSource, IsProgramOf, IsNoProgram}
 
-abbrev pub IsFound : Told → List ℕ → ℕ → ℕ → Source → Type 0
-IsFound told file before after (Read program) = IsSource told file program
-IsFound told file before after (Refused r) = SourceRefusal told file before after r.status r.text
+-- of a file
+abbrev pub IsFound : Seen → List ℕ → Source → Type 0
+IsFound s file (Read program) = IsSource s file program
+IsFound s file (Refused refusal) = SourceRefusal s file refusal
 
+-- of a content
 abbrev pub IsFoundIn : List ℕ → Source → Type 0
 IsFoundIn content (Read program) = IsProgramOf content program
-IsFoundIn content (Refused r) = (r.status ≡ 5) × (r.text ≡ syntax_line) × IsNoProgram content
+IsFoundIn content (Refused refusal) = IsNoProgram content refusal

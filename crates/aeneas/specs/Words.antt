@@ -1,6 +1,6 @@
 -- The words of a command (README.md, "The commands").
 use Rattle.std.specs.Prelude.{◌≡◌, ℕ, ◌<◌, ◌≤◌, ◌^◌, true, List, [], ◌∷◌, All, length, codes}
-use Rattle.source_meaning.specs.Words.{is_number, digits_value}
+use Rattle.aen_base.specs.Decimals.{is_number, digits_value}
 
 -- a word of 2^32 bytes or more is in no form
 abbrev pub IsShort : List ℕ → Type 0

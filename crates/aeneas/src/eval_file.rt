@@ -1,13 +1,16 @@
-ghost use Rattle.std.specs.Prelude.{◌≡◌, ◌<◌, ◌^◌, IfOk, All, length, map};
+ghost use Rattle.std.specs.Prelude.{◌≡◌, ◌<◌, ◌^◌, ◌++◌, IfOk, All, length, map};
 ghost use Rattle.std.specs.String.{string_bytes, string_len};
 ghost use Rattle.text_meaning.specs.WellFormed.{IsWellFormed};
+ghost use Rattle.aen_io.specs.Handed.{since};
 ghost use Rattle.aeneas.specs.Eval.{EvalReply, DefsReply, EvaluationReply, AnswerReply, ArgFaultReply};
+ghost use Rattle.aeneas.specs.Seen.{seen};
 
 use crate::definition_word::definition_word;
-use crate::fuel_limit::{FUEL_LIMIT, much_fuel};
+use crate::limits::greatest;
 use crate::printed::{Printed, printed_of};
-use crate::reply::{Reply, one_line};
-use aen_base::{DefId, NoMem, Text};
+use crate::refusal::Refusal;
+use crate::reply::{Reply, one_line, refused};
+use aen_base::{DefId, NoMem, Text, Which};
 use aen_io::Files;
 use lean_reader::{ArgFault, def_named, print_atom, read_args};
 use pure_ast::Defs;
@@ -26,15 +29,16 @@ pub fn eval_file<F: Files>(
 ) -> Result<Reply, NoMem>
     requires short { length word.now < 2 ^ 32 }
     requires short_values { All (λ w. string_len w < 2 ^ 32) values.now }
-    ensures reply { IfOk result (λ r. EvalReply (F.told files.old) file.now word.now (map string_bytes values.now) fuel (F.faults files.old) (F.faults files.new) r.status r.text) }
+    ensures reply { IfOk result (λ r. EvalReply (seen F.told F.handed F.faults files.old files.new) file.now word.now (map string_bytes values.now) fuel r.status r.text) }
     ensures kept { F.told files.new ≡ F.told files.old }
+    ensures grown { F.handed files.new ≡ F.handed files.old ++ since (F.handed files.old) (F.handed files.new) }
 {
-    if fuel > FUEL_LIMIT {
-        return much_fuel(alloc, fuel);
+    if fuel > greatest(Which::Fuel) {
+        return refused(alloc, Refusal::Limit(Which::Fuel, fuel));
     }
     match printed_of(alloc, files, file)? {
         Printed::Read(defs) => eval_word(alloc, &defs, word, fuel, values),
-        Printed::Refused(reply) => Ok(reply),
+        Printed::Refused(refusal) => refused(alloc, refusal),
     }
 }
 
@@ -52,10 +56,10 @@ fn eval_word(
     ensures { IfOk result (λ r. DefsReply defs.now word.now (map string_bytes values.now) fuel r.status r.text) }
 {
     let Some(parts) = definition_word(alloc, word)? else {
-        return one_line(alloc, 13, "refused 13 name\n");
+        return refused(alloc, Refusal::Name);
     };
     match def_named(defs, parts.name) {
-        None => one_line(alloc, 13, "refused 13 name\n"),
+        None => refused(alloc, Refusal::Name),
         Some(def) => eval_definition(alloc, defs, def, parts.types.as_slice(), fuel, values),
     }
 }
@@ -86,15 +90,9 @@ fn arg_fault_reply(alloc: Global, fault: ArgFault) -> Result<Reply, NoMem>
     ensures { IfOk result (λ r. ArgFaultReply fault r.status r.text) }
 {
     match fault {
-        ArgFault::Types => one_line(alloc, 11, "refused 11 types\n"),
-        ArgFault::WrongCount(expected, given) => {
-            let line = format!(in alloc; "refused 11 count {expected} {given}\n")?;
-            one_line(alloc, 11, line.as_str())
-        }
-        ArgFault::BadValue(place) => {
-            let line = format!(in alloc; "refused 11 argument {place}\n")?;
-            one_line(alloc, 11, line.as_str())
-        }
+        ArgFault::Types => refused(alloc, Refusal::Types),
+        ArgFault::WrongCount(expected, given) => refused(alloc, Refusal::Count(expected, given)),
+        ArgFault::BadValue(place) => refused(alloc, Refusal::Argument(place)),
         ArgFault::Memory => Err(NoMem),
     }
 }

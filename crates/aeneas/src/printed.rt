@@ -1,38 +1,35 @@
-ghost use Rattle.std.specs.Prelude.{◌≡◌, ◌<◌, ◌^◌, IfOk, length};
-ghost use Rattle.lean_reader.specs.Reading.{IsFault};
-ghost use Rattle.aeneas.specs.Printed.{ContentRefusal};
+ghost use Rattle.std.specs.Prelude.{◌≡◌, ◌<◌, ◌^◌, ◌++◌, IfOk, length};
+ghost use Rattle.aen_io.specs.Handed.{since};
 ghost use Rattle.aeneas.specs.PrintedFound.{IsPrintedFound, IsPrintedFoundIn};
+ghost use Rattle.aeneas.specs.Seen.{seen};
 
-use crate::reply::{Reply, one_line};
-use aen_base::NoMem;
+use crate::limits::greatest;
+use crate::refusal::Refusal;
+use aen_base::{NoMem, Which};
 use aen_io::{Files, ReadAll, read_all};
 use lean_reader::{LeanFault, read_defs};
 use pure_ast::Defs;
 use std::alloc::Global;
 
-/// The most bytes of a printed text.
-const TEXT_LIMIT: u64 = 67_108_864;
-
-/// A file as a printed text: its definitions, or the reply of its refusal.
+/// A file as a printed text: its definitions, or its refusal.
 #[derive(Drop)]
 pub enum Printed {
     /// The definitions that the file is.
     Read(Defs),
     /// Why the file is none.
-    Refused(Reply),
+    Refused(Refusal),
 }
 
 /// Reads a file as a printed text. The only error is want of memory.
 pub fn printed_of<F: Files>(alloc: Global, files: &mut F, file: &str) -> Result<Printed, NoMem>
-    ensures found { IfOk result (IsPrintedFound (F.told files.old) file.now (F.faults files.old) (F.faults files.new)) }
+    ensures found { IfOk result (IsPrintedFound (seen F.told F.handed F.faults files.old files.new) file.now) }
     ensures kept { F.told files.new ≡ F.told files.old }
+    ensures grown { F.handed files.new ≡ F.handed files.old ++ since (F.handed files.old) (F.handed files.new) }
 {
-    match read_all(alloc, files, file, TEXT_LIMIT) {
+    match read_all(alloc, files, file, greatest(Which::Text)) {
         Ok(content) => content_defs(alloc, &content),
-        Err(ReadAll::Failed) => Ok(Printed::Refused(one_line(alloc, 2, "refused 2 read\n")?)),
-        Err(ReadAll::TooLong(_)) => {
-            Ok(Printed::Refused(one_line(alloc, 10, "refused 10 limit text 67108865\n")?))
-        }
+        Err(ReadAll::Failed) => Ok(Printed::Refused(Refusal::Read)),
+        Err(ReadAll::TooLong(count)) => Ok(Printed::Refused(Refusal::Limit(Which::Text, count))),
         Err(ReadAll::Memory) => Err(NoMem),
     }
 }
@@ -44,11 +41,7 @@ fn content_defs(alloc: Global, content: &[u8]) -> Result<Printed, NoMem>
 {
     match str::from_utf8(content) {
         Ok(text) => text_defs(alloc, text),
-        Err(fault) => {
-            let valid = fault.valid_up_to();
-            let line = format!(in alloc; "refused 4 utf8 {valid}\n")?;
-            Ok(Printed::Refused(one_line(alloc, 4, line.as_str())?))
-        }
+        Err(fault) => Ok(Printed::Refused(Refusal::Utf8(fault.valid_up_to() as u64))),
     }
 }
 
@@ -59,14 +52,8 @@ fn text_defs(alloc: Global, text: &str) -> Result<Printed, NoMem>
 {
     match read_defs(alloc, text) {
         Ok(defs) => Ok(Printed::Read(defs)),
-        Err(LeanFault::Syntax(place)) => {
-            let (lo, hi) = (place.lo, place.hi);
-            let line = format!(in alloc; "refused 12 text {lo}..{hi}\n")?;
-            Ok(Printed::Refused(one_line(alloc, 12, line.as_str())?))
-        }
-        Err(LeanFault::Limit(_, _)) => {
-            Ok(Printed::Refused(one_line(alloc, 10, "refused 10 limit text_nesting 10001\n")?))
-        }
+        Err(LeanFault::Syntax(place)) => Ok(Printed::Refused(Refusal::Text(place))),
+        Err(LeanFault::Limit(which, count)) => Ok(Printed::Refused(Refusal::Limit(which, count))),
         Err(LeanFault::Memory) => Err(NoMem),
     }
 }

@@ -1,9 +1,13 @@
-ghost use Rattle.std.specs.Prelude.{◌≡◌, IfOk, map};
+ghost use Rattle.std.specs.Prelude.{◌≡◌, ◌++◌, IfOk, map};
 ghost use Rattle.std.specs.String.{string_bytes};
+ghost use Rattle.aen_io.specs.Handed.{since};
+ghost use Rattle.aeneas.specs.Refusals.{IsRefusal};
 ghost use Rattle.aeneas.specs.Reply.{IsReply};
+ghost use Rattle.aeneas.specs.Seen.{seen};
 
 use crate::command::{Command, command_of};
 use crate::eval_file::eval_file;
+use crate::refusal::Refusal;
 use crate::run_file::run_file;
 use crate::translate_file::translate_file;
 use aen_base::{NoMem, Text};
@@ -29,13 +33,24 @@ pub fn one_line(alloc: Global, status: u8, line: &str) -> Result<Reply, NoMem>
     })
 }
 
+/// The reply of a refusal. The only error is want of memory.
+pub fn refused(alloc: Global, refusal: Refusal) -> Result<Reply, NoMem>
+    ensures { IfOk result (λ r. IsRefusal refusal r.status r.text) }
+{
+    Ok(Reply {
+        status: refusal.status(),
+        text: refusal.line(alloc)?,
+    })
+}
+
 /// The reply to a command's words. The only error is want of memory.
 pub fn reply_to<F: Files>(alloc: Global, words: &[String], files: &mut F) -> Result<Reply, NoMem>
-    ensures reply { IfOk result (λ r. IsReply (map string_bytes words.now) (F.told files.old) (F.faults files.old) (F.faults files.new) r.status r.text) }
+    ensures reply { IfOk result (λ r. IsReply (map string_bytes words.now) (seen F.told F.handed F.faults files.old files.new) r.status r.text) }
     ensures kept { F.told files.new ≡ F.told files.old }
+    ensures grown { F.handed files.new ≡ F.handed files.old ++ since (F.handed files.old) (F.handed files.new) }
 {
     match command_of(words) {
-        None => one_line(alloc, 1, "refused 1 usage\n"),
+        None => refused(alloc, Refusal::Usage),
         Some(Command::Translate(file)) => translate_file(alloc, files, file),
         Some(Command::Run(file, name, fuel, values)) => {
             run_file(alloc, files, file, name, fuel, values)

@@ -1,13 +1,16 @@
-ghost use Rattle.std.specs.Prelude.{◌≡◌, IfOk, map, slice_get, IsSomeAnd};
+ghost use Rattle.std.specs.Prelude.{◌≡◌, ◌++◌, IfOk, map, slice_get, IsSomeAnd};
 ghost use Rattle.std.specs.String.{string_bytes};
 ghost use Rattle.source_meaning.specs.Typing.{IsTyped};
 ghost use Rattle.pointer_machine.specs.Outcomes.{IsSettled};
+ghost use Rattle.aen_io.specs.Handed.{since};
 ghost use Rattle.aeneas.specs.Run.{RunReply, ProgramReply, CallReply, OutcomeReply, FaultReply};
+ghost use Rattle.aeneas.specs.Seen.{seen};
 
-use crate::fuel_limit::{FUEL_LIMIT, much_fuel};
-use crate::reply::{Reply, one_line};
+use crate::limits::greatest;
+use crate::refusal::Refusal;
+use crate::reply::{Reply, one_line, refused};
 use crate::source::{Source, source_of};
-use aen_base::{FnId, NoMem, Text, at};
+use aen_base::{FnId, NoMem, Text, Which, at};
 use aen_io::Files;
 use call_frame::{ArgFault, Outcome, arguments, function_named, print_value};
 use pointer_machine::run;
@@ -23,15 +26,16 @@ pub fn run_file<F: Files>(
     fuel: u64,
     values: &[String],
 ) -> Result<Reply, NoMem>
-    ensures reply { IfOk result (λ r. RunReply (F.told files.old) file.now name.now (map string_bytes values.now) fuel (F.faults files.old) (F.faults files.new) r.status r.text) }
+    ensures reply { IfOk result (λ r. RunReply (seen F.told F.handed F.faults files.old files.new) file.now name.now (map string_bytes values.now) fuel r.status r.text) }
     ensures kept { F.told files.new ≡ F.told files.old }
+    ensures grown { F.handed files.new ≡ F.handed files.old ++ since (F.handed files.old) (F.handed files.new) }
 {
-    if fuel > FUEL_LIMIT {
-        return much_fuel(alloc, fuel);
+    if fuel > greatest(Which::Fuel) {
+        return refused(alloc, Refusal::Limit(Which::Fuel, fuel));
     }
     match source_of(alloc, files, file)? {
         Source::Read(program) => run_program(alloc, &program, name, fuel, values),
-        Source::Refused(reply) => Ok(reply),
+        Source::Refused(refusal) => refused(alloc, refusal),
     }
 }
 
@@ -48,7 +52,7 @@ fn run_program(
 {
     match function_named(program, name) {
         Some(function) => call(alloc, program, function, fuel, values),
-        None => one_line(alloc, 13, "refused 13 name\n"),
+        None => refused(alloc, Refusal::Name),
     }
 }
 
@@ -78,14 +82,8 @@ fn fault_reply(alloc: Global, fault: ArgFault) -> Result<Reply, NoMem>
     ensures { IfOk result (λ r. FaultReply fault r.status r.text) }
 {
     match fault {
-        ArgFault::WrongCount(expected, given) => {
-            let line = format!(in alloc; "refused 11 count {expected} {given}\n")?;
-            one_line(alloc, 11, line.as_str())
-        }
-        ArgFault::BadValue(place) => {
-            let line = format!(in alloc; "refused 11 argument {place}\n")?;
-            one_line(alloc, 11, line.as_str())
-        }
+        ArgFault::WrongCount(expected, given) => refused(alloc, Refusal::Count(expected, given)),
+        ArgFault::BadValue(place) => refused(alloc, Refusal::Argument(place)),
         ArgFault::Memory => Err(NoMem),
     }
 }

@@ -1,36 +1,35 @@
-ghost use Rattle.std.specs.Prelude.{◌≡◌, ◌<◌, ◌^◌, IfOk, length};
+ghost use Rattle.std.specs.Prelude.{◌≡◌, ◌<◌, ◌^◌, ◌++◌, IfOk, length};
+ghost use Rattle.aen_io.specs.Handed.{since};
+ghost use Rattle.aeneas.specs.Seen.{seen};
 ghost use Rattle.aeneas.specs.SourceFound.{IsFound, IsFoundIn};
 
-use crate::reply::{Reply, one_line};
-use aen_base::NoMem;
+use crate::limits::greatest;
+use crate::refusal::Refusal;
+use aen_base::{NoMem, Which};
 use aen_io::{Files, ReadAll, read_all};
 use std::alloc::Global;
 use sums_ast::Program;
 use sums_reader::{ReadFault, read};
 
-/// The most bytes of a source.
-const SOURCE_LIMIT: u64 = 1_048_576;
-
-/// A file as a source: its program, or the reply of its refusal.
+/// A file as a source: its program, or its refusal.
 #[derive(Drop)]
 pub enum Source {
     /// The program that the file is.
     Read(Program),
     /// Why the file is none.
-    Refused(Reply),
+    Refused(Refusal),
 }
 
 /// Reads a file as a source. The only error is want of memory.
 pub fn source_of<F: Files>(alloc: Global, files: &mut F, file: &str) -> Result<Source, NoMem>
-    ensures found { IfOk result (IsFound (F.told files.old) file.now (F.faults files.old) (F.faults files.new)) }
+    ensures found { IfOk result (IsFound (seen F.told F.handed F.faults files.old files.new) file.now) }
     ensures kept { F.told files.new ≡ F.told files.old }
+    ensures grown { F.handed files.new ≡ F.handed files.old ++ since (F.handed files.old) (F.handed files.new) }
 {
-    match read_all(alloc, files, file, SOURCE_LIMIT) {
+    match read_all(alloc, files, file, greatest(Which::Source)) {
         Ok(content) => program_of(alloc, &content),
-        Err(ReadAll::Failed) => Ok(Source::Refused(one_line(alloc, 2, "refused 2 read\n")?)),
-        Err(ReadAll::TooLong(_)) => {
-            Ok(Source::Refused(one_line(alloc, 10, "refused 10 limit source 1048577\n")?))
-        }
+        Err(ReadAll::Failed) => Ok(Source::Refused(Refusal::Read)),
+        Err(ReadAll::TooLong(count)) => Ok(Source::Refused(Refusal::Limit(Which::Source, count))),
         Err(ReadAll::Memory) => Err(NoMem),
     }
 }
@@ -42,7 +41,7 @@ fn program_of(alloc: Global, content: &[u8]) -> Result<Source, NoMem>
 {
     match read(alloc, content) {
         Ok(program) => Ok(Source::Read(program)),
-        Err(ReadFault::Syntax) => Ok(Source::Refused(one_line(alloc, 5, "refused 5 syntax\n")?)),
+        Err(ReadFault::Syntax) => Ok(Source::Refused(Refusal::Syntax)),
         Err(ReadFault::Memory) => Err(NoMem),
     }
 }

@@ -1,9 +1,11 @@
-ghost use Rattle.std.specs.Prelude.{◌≡◌, IfOk};
+ghost use Rattle.std.specs.Prelude.{◌≡◌, ◌++◌, IfOk};
 ghost use Rattle.source_meaning.specs.Typing.{IsTyped};
+ghost use Rattle.aen_io.specs.Handed.{since};
 ghost use Rattle.aeneas.specs.Reply.{TranslateReply};
 ghost use Rattle.aeneas.specs.Translation.{IsTextOf};
+ghost use Rattle.aeneas.specs.Seen.{seen};
 
-use crate::reply::Reply;
+use crate::reply::{Reply, refused};
 use crate::source::{Source, source_of};
 use aen_base::{NoMem, Text};
 use aen_io::Files;
@@ -14,15 +16,16 @@ use translate::translate;
 
 /// `translate FILE`. The only error is want of memory.
 pub fn translate_file<F: Files>(alloc: Global, files: &mut F, file: &str) -> Result<Reply, NoMem>
-    ensures reply { IfOk result (λ r. TranslateReply (F.told files.old) file.now (F.faults files.old) (F.faults files.new) r.status r.text) }
+    ensures reply { IfOk result (λ r. TranslateReply (seen F.told F.handed F.faults files.old files.new) file.now r.status r.text) }
     ensures kept { F.told files.new ≡ F.told files.old }
+    ensures grown { F.handed files.new ≡ F.handed files.old ++ since (F.handed files.old) (F.handed files.new) }
 {
     match source_of(alloc, files, file)? {
         Source::Read(program) => {
             let text = text_of(alloc, &program)?;
             Ok(Reply { status: 0, text })
         }
-        Source::Refused(reply) => Ok(reply),
+        Source::Refused(refusal) => refused(alloc, refusal),
     }
 }
 

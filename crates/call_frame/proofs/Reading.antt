@@ -14,7 +14,8 @@ use Rattle.aen_base.specs.Arithmetic.{number as number_of}
 use Rattle.std.specs.Prelude.{pos}
 use Rattle.sums_ast.specs.declared.function.Function.{Function}
 use Rattle.source_meaning.specs.Calling.{IsU32Value, AreU32Values, AreArguments}
-use Rattle.call_frame.specs.Written.{word_number, word_value, written}
+use Rattle.aen_base.specs.Decimals.{decimal_below}
+use Rattle.call_frame.specs.Written.{word_value, written}
 use Rattle.call_frame.proofs.Digits.{word_small, printed}
 
 module _ {X : Type 0} where
@@ -54,7 +55,7 @@ all_u32 : (words : List (List ℕ)) (values : List PValue) → map word_value wo
 all_u32 words [] h = tt
 all_u32 [] (value ∷ values) h = absurd (cc)
 all_u32 (word ∷ words) (value ∷ values) h =
-    (u32_by (word_number word) value (word_small word) (ap (λ (l : List (Option PValue)). get_or l 0 None) h), all_u32 words values (ap after_first h))
+    (u32_by (decimal_below (2 ^ 32) word) value (word_small word) (ap (λ (l : List (Option PValue)). get_or l 0 None) h), all_u32 words values (ap after_first h))
 
 -- values that words write are arguments
 pub fitting : (f : Function) (words : List (List ℕ)) (values : List PValue) → length words ≡ f.parameters → map word_value words ≡ map Some values → AreArguments f values

@@ -3,7 +3,6 @@
 #![tactic(auto)]
 
 mod naming;
-mod number;
 mod printing;
 mod words;
 

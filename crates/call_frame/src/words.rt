@@ -4,8 +4,7 @@ ghost use Rattle.source_meaning.specs.Calling.{AreArguments};
 ghost use Rattle.call_frame.specs.Written as spec;
 ghost use Rattle.call_frame.specs.Arguments.{IsReading};
 
-use crate::number::word_number;
-use aen_base::{IntTy, List, NoMem, num};
+use aen_base::{IntTy, List, NoMem, decimal_u32, num};
 use pure_ast::PValue;
 use std::alloc::Global;
 use sums_ast::Function;
@@ -41,7 +40,7 @@ impl From<NoMem> for ArgFault {
 pub(crate) fn word_value(word: &[u8]) -> Option<PValue>
     ensures { result ≡ spec.word_value word.now }
 {
-    let magnitude = word_number(word)?;
+    let magnitude = decimal_u32(word)?;
     let number = num(IntTy::U32, false, u128::from(magnitude))?;
     Some(PValue::number(number))
 }

@@ -15,3 +15,4 @@ mod turns;
 mod variables;
 
 pub use evaluation::eval;
+pub use text_meaning::Answer;

@@ -1,5 +1,4 @@
 pub mod Finding
-pub mod Gives
 pub mod Tables
 pub mod Lookups
 pub mod Twice
@@ -7,7 +6,6 @@ pub mod Scopes
 pub mod TypeUses
 pub mod PathUses
 pub mod PatternUses
-pub mod Walks
-pub mod Hiding
 pub mod Uses
+pub mod Walks
 pub mod Resolution

@@ -28,6 +28,7 @@ use Rattle.rust_names.specs.Tables.{names_of, tables_of}
 use Rattle.rust_names.specs.Scopes.{State, enter}
 use Rattle.rust_names.specs.TypeUses.{read_type, read_maybe_type}
 use Rattle.rust_names.specs.Twice.{Pair, twice}
+use Rattle.rust_names.specs.Walks.{each}
 use Rattle.rust_names.specs.Uses.{read_block}
 
 abbrev pub only_parameters : List Ident → Generics
@@ -48,8 +49,7 @@ abbrev pub named_field : Tables → Generics → Span × List ℕ × s.Written �
 named_field t g x = and_then (read_type t g x.2) (λ y. Ok (x.1, y))
 
 abbrev pub read_named : Tables → Generics → List (Span × List ℕ × s.Written) → Result (List (List ℕ × w.Written)) Span
-read_named t g [] = Ok []
-read_named t g (x ∷ xs) = and_then (named_field t g x) (λ y. and_then (read_named t g xs) (λ ys. Ok (y ∷ ys)))
+read_named t g xs = each (named_field t g) xs
 
 abbrev pub read_struct_fields : Tables → Generics → Fields → Result (List (List ℕ × w.Written)) Span
 read_struct_fields t g (fields.Named xs) = read_named t g xs
@@ -59,8 +59,7 @@ abbrev pub read_variant : Tables → Generics → variants.Variant → Result (L
 read_variant t g v = and_then (read_placed t g 0 v.fields) (λ fs. Ok (v.name.name, fs))
 
 abbrev pub read_variants : Tables → Generics → List variants.Variant → Result (List (List ℕ × List (List ℕ × w.Written))) Span
-read_variants t g [] = Ok []
-read_variants t g (v ∷ vs) = and_then (read_variant t g v) (λ y. and_then (read_variants t g vs) (λ ys. Ok (y ∷ ys)))
+read_variants t g vs = each (read_variant t g) vs
 
 unfoldable pub read_struct : Tables → structs.Struct → Result Declared Span
 read_struct t x =
@@ -75,9 +74,11 @@ read_enum t x =
 -- ---- functions
 
 -- the types of parameters, from left to right
+abbrev pub param_type : Tables → Generics → Param → Result w.Written Span
+param_type t g x = read_type t g x.ty
+
 abbrev pub read_params : Tables → Generics → List Param → Result (List w.Written) Span
-read_params t g [] = Ok []
-read_params t g (x ∷ xs) = and_then (read_type t g x.ty) (λ y. and_then (read_params t g xs) (λ ys. Ok (y ∷ ys)))
+read_params t g xs = each (param_type t g) xs
 
 -- the parameters are the first variables, and in scope
 abbrev pub param_variable : Param → Variable

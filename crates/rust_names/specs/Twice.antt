@@ -17,7 +17,7 @@ use Rattle.rust_names.specs.declared.entry.Entry.{Entry}
 use Rattle.rust_names.specs.declared.entry.Kind.{Kind}
 use Rattle.rust_names.specs.declared.entry.Kind.TheVariants as kind
 use Rattle.rust_names.specs.declared.tables.ValueNames.{ValueNames}
-use Rattle.rust_names.specs.Finding.{find, or_else}
+use Rattle.rust_names.specs.Finding.{or_else}
 use Rattle.rust_names.specs.Tables.{tables_of}
 use Rattle.rust_names.specs.Lookups.{empty_struct}
 
@@ -61,7 +61,8 @@ first_like k w (x ∷ xs) = if bytes_eq x.name w && must_differ k x.kind then So
 
 -- the place of the first of this name
 abbrev pub first_named : List ℕ → List Ident → Option Span
-first_named w xs = option_map (λ r. r.1.span) (find (λ (i : Ident). i.name) xs w)
+first_named w [] = None
+first_named w (x ∷ xs) = if bytes_eq x.name w then Some x.span else first_named w xs
 
 -- the first name, of those that come after others, that stands before it
 abbrev pub repeated : List Ident → List Ident → Pair
@@ -229,10 +230,13 @@ twice_in_item vs seen i =
     or_else (repeated_parameter (seen ++ own_entry i) [] (item_parameters i))
     (twice_inside vs i)))
 
+abbrev pub with_entries : List Entry → Item → List Entry
+with_entries seen i = (seen ++ own_entry i) ++ entries kind.Parameter (item_parameters i)
+
 abbrev pub twice_in_items : List ValueNames → List Entry → List Item → Pair
 twice_in_items vs seen [] = None
 twice_in_items vs seen (i ∷ is) =
-    or_else (twice_in_item vs seen i) (twice_in_items vs (seen ++ own_entry i ++ entries kind.Parameter (item_parameters i)) is)
+    or_else (twice_in_item vs seen i) (twice_in_items vs (with_entries seen i) is)
 
 unfoldable pub twice : Program → Pair
 twice prog = twice_in_items (tables_of prog.items).values [] prog.items

@@ -21,8 +21,11 @@ Answer A = Result (A × State) Span
 abbrev pub with_one : (r.Expr → r.Expr) → Answer r.Expr → Answer r.Expr
 with_one make o = and_then o (λ a. Ok (make a.0, a.1))
 
-abbrev pub with_two : (r.Expr → r.Expr → r.Expr) → Answer r.Expr → (State → Answer r.Expr) → Answer r.Expr
-with_two make o next = and_then o (λ a. and_then (next a.1) (λ b. Ok (make a.0 b.0, b.1)))
+abbrev pub both_read : Answer r.Expr → (State → Answer r.Expr) → Answer (r.Expr × r.Expr)
+both_read o next = and_then o (λ a. and_then (next a.1) (λ b. Ok ((a.0, b.0), b.1)))
+
+abbrev pub with_two : (r.Expr → r.Expr → r.Expr) → Answer (r.Expr × r.Expr) → Answer r.Expr
+with_two make o = and_then o (λ a. Ok (make a.0.0 a.0.1, a.1))
 
 -- a value with the name of its field
 abbrev pub with_name : Span → List ℕ → Answer r.Expr → Answer (Span × List ℕ × r.Expr)
@@ -75,13 +78,13 @@ abbrev mutual
   read t g (s.negation q a) st = with_one (r.negation q) (read t g a st)
   read t g (s.deref q a) st = with_one (r.deref q) (read t g a st)
   read t g (s.borrow q m a) st = with_one (r.borrow q m) (read t g a st)
-  read t g (s.binary q op a b) st = with_two (r.binary q op) (read t g a st) (read t g b)
-  read t g (s.compare q op a b) st = with_two (r.compare q op) (read t g a st) (read t g b)
-  read t g (s.both q a b) st = with_two (r.both q) (read t g a st) (read t g b)
-  read t g (s.either q a b) st = with_two (r.either q) (read t g a st) (read t g b)
+  read t g (s.binary q op a b) st = with_two (r.binary q op) (both_read (read t g a st) (read t g b))
+  read t g (s.compare q op a b) st = with_two (r.compare q op) (both_read (read t g a st) (read t g b))
+  read t g (s.both q a b) st = with_two (r.both q) (both_read (read t g a st) (read t g b))
+  read t g (s.either q a b) st = with_two (r.either q) (both_read (read t g a st) (read t g b))
   read t g (s.cast q a i) st = with_one (λ x. r.cast q x i) (read t g a st)
-  read t g (s.assign q a b) st = with_two (r.assign q) (read t g a st) (read t g b)
-  read t g (s.update q op a b) st = with_two (r.update q op) (read t g a st) (read t g b)
+  read t g (s.assign q a b) st = with_two (r.assign q) (both_read (read t g a st) (read t g b))
+  read t g (s.update q op a b) st = with_two (r.update q op) (both_read (read t g a st) (read t g b))
   read t g (s.give q o) st = and_then (read_maybe t g o st) (λ a. Ok (r.give q a.0, a.1))
   read t g (s.leave q o) st = and_then (read_maybe t g o st) (λ a. Ok (r.leave q a.0, a.1))
   read t g (s.go_on q) st = Ok (r.go_on q, st)
@@ -128,3 +131,6 @@ abbrev mutual
       and_then (read_maybe_type t g ty) (λ z.
       and_then (read_maybe t g o y.1) (λ v.
       Ok (r.bind q y.0 z v.0, enter (length st.variables) (length y.1.variables) v.1))))
+
+abbrev pub read_two : Tables → Generics → s.Expr → s.Expr → State → Answer (r.Expr × r.Expr)
+read_two t g a b st = both_read (read t g a st) (read t g b)

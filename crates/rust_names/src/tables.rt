@@ -1,28 +1,17 @@
-ghost use Rattle.std.specs.Prelude.{◌≡◌};
-
-use crate::by_name::{ByName, Named};
-use aen_base::{Name, TypeId};
+use aen_base::{List, Name, TypeId};
 
 /// A declared type as uses see it.
 #[derive(Drop)]
-pub(crate) struct TypeNames {
-    pub(crate) name: Name,
-    pub(crate) is_struct: bool,
+pub struct TypeNames {
+    pub name: Name,
+    pub is_struct: bool,
     /// The names of an enum's variants; a struct has none.
-    pub(crate) variants: ByName<Name>,
-}
-
-impl Named for TypeNames {
-    ghost name_of = { λ t. t.name };
-
-    fn name(&self) -> &Name {
-        &self.name
-    }
+    pub variants: List<Name>,
 }
 
 /// What a name of the space of functions and structs means.
 #[derive(Clone, Copy, Debug, PartialEq, Eq)]
-pub(crate) enum Meaning {
+pub enum Meaning {
     /// A function, by its number.
     Function(u32),
     /// A struct without fields.
@@ -35,33 +24,25 @@ pub(crate) enum Meaning {
 
 /// A function or a struct as uses see it.
 #[derive(Drop)]
-pub(crate) struct ValueNames {
-    pub(crate) name: Name,
-    pub(crate) meaning: Meaning,
-}
-
-impl Named for ValueNames {
-    ghost name_of = { λ v. v.name };
-
-    fn name(&self) -> &Name {
-        &self.name
-    }
+pub struct ValueNames {
+    pub name: Name,
+    pub meaning: Meaning,
 }
 
 /// What a program declares, as uses see it.
 #[derive(Drop)]
-pub(crate) struct Tables {
+pub struct Tables {
     /// The declared types in source order.
-    pub(crate) types: ByName<TypeNames>,
+    pub types: List<TypeNames>,
     /// The functions and structs in source order.
-    pub(crate) values: ByName<ValueNames>,
+    pub values: List<ValueNames>,
     /// Whether `use std::mem;` stands in it.
-    pub(crate) mem: bool,
+    pub mem: bool,
 }
 
 /// What an item declares for its own types.
 #[derive(Drop)]
-pub(crate) struct Generics {
-    pub(crate) lifetimes: ByName<Name>,
-    pub(crate) type_params: ByName<Name>,
+pub struct Generics {
+    pub lifetimes: List<Name>,
+    pub type_params: List<Name>,
 }

@@ -11,7 +11,8 @@ use Rattle.source_meaning.specs.declared.token.Mark.{Mark}
 use Rattle.source_meaning.specs.declared.token.Mark.TheVariants.{Open, Close, OpenBrace, CloseBrace, Comma, Colon, Semicolon, Equals, Plus, Arrow}
 use Rattle.source_meaning.specs.declared.token.TokenKind.TheVariants.{Word, Punct}
 use Rattle.source_meaning.specs.declared.token.Token.{Token}
-use Rattle.source_meaning.specs.Words.{is_name, is_number, digits_value}
+use Rattle.aen_base.specs.Decimals.{is_number, digits_value}
+use Rattle.source_meaning.specs.Words.{is_name}
 use Rattle.source_meaning.specs.Lexing.{Lexed}
 use Rattle.source_meaning.specs.Scope.{IsLast, IsEarlier, AreDistinct}
 

@@ -1,14 +1,12 @@
--- Characters, names and numbers of a source (LANGUAGE.md, "Tokens").
-use Rattle.std.specs.Prelude.{ℕ, ◌+◌, ◌-◌, ◌*◌, Bool, false, not, ◌&&◌, ◌||◌, ◌==◌, nat_le, List, [], ◌∷◌, codes}
+-- Characters, words and names of a source (LANGUAGE.md, "Tokens").
+use Rattle.std.specs.Prelude.{ℕ, Bool, false, not, ◌&&◌, ◌||◌, ◌==◌, nat_le, List, [], ◌∷◌, codes}
 use Rattle.std.specs.List.{list_any, list_all}
 use Rattle.std.specs.Str.{bytes_eq}
+use Rattle.aen_base.specs.Decimals.{is_digit}
 
 -- space, tab, line feed, carriage return
 abbrev pub is_space : ℕ → Bool
 is_space c = (c == 32) || (c == 9) || (c == 10) || (c == 13)
-
-abbrev pub is_digit : ℕ → Bool
-is_digit c = nat_le 48 c && nat_le c 57
 
 -- an ASCII letter or `_`
 abbrev pub is_letter : ℕ → Bool
@@ -44,13 +42,3 @@ abbrev pub is_name : List ℕ → Bool
 is_name w =
     begins_name w && list_all is_word_char w && not (bytes_eq w (codes "_"))
     && not (list_any (bytes_eq w) words) && not (list_any (bytes_eq w) excluded_words)
-
--- the number that decimal digits write, after the digits that were read
-abbrev pub digits_value : ℕ → List ℕ → ℕ
-digits_value n [] = n
-digits_value n (c ∷ cs) = digits_value (n * 10 + (c - 48)) cs
-
--- a number: one decimal digit or more
-abbrev pub is_number : List ℕ → Bool
-is_number [] = false
-is_number (c ∷ cs) = list_all is_digit (c ∷ cs)

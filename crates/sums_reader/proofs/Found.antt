@@ -8,7 +8,8 @@ use Rattle.sums_ast.specs.Tree.{Expr, number, variable, binary, call, Exprs, no_
 use Rattle.sums_ast.specs.declared.function.Function.{Function}
 use Rattle.source_meaning.specs.declared.token.Mark.TheVariants.{Open, Close, Comma, Plus}
 use Rattle.source_meaning.specs.declared.token.Token.{Token}
-use Rattle.source_meaning.specs.Words.{is_number, is_name as is_name_of}
+use Rattle.aen_base.specs.Decimals.{is_number}
+use Rattle.source_meaning.specs.Words.{is_name as is_name_of}
 use Rattle.source_meaning.specs.Grammar.{IsMark, IsWord, IsList, IsAtom, IsTerm, IsSum, SpanOf, begins_with_number}
 use Rattle.sums_reader.specs.Words.{is_name}
 use Rattle.sums_reader.specs.Lookup.{last_index}

@@ -12,4 +12,5 @@ pub mod Blocks
 pub mod Found
 pub mod FoundBlocks
 pub mod Typed
+pub mod Counts
 pub mod Sources

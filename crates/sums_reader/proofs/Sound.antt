@@ -12,7 +12,8 @@ use Rattle.source_meaning.specs.declared.token.Token.{Token}
 use Rattle.source_meaning.specs.Scope.{IsEarlier}
 use Rattle.source_meaning.specs.Grammar.{IsWord, IsList, IsAtom, IsTerm, IsSum, SpanOf, last_end, begins_with_number}
 use Rattle.sums_reader.specs.declared.cursor.WordAt.{WordAt}
-use Rattle.sums_reader.specs.Words.{is_name, number_value}
+use Rattle.aen_base.specs.Decimals.{decimal_below}
+use Rattle.sums_reader.specs.Words.{is_name}
 use Rattle.sums_reader.specs.Lookup.{last_index, callee}
 use Rattle.sums_reader.specs.Parser.{Tokens, Parser, and_then, ◌>>=◌, pure, known, tail}
 use Rattle.sums_reader.specs.Parse as spec
@@ -93,7 +94,7 @@ module _ {A : Type 0} (p : List A → Parser A) (P : A → Tokens → Type 0) (Q
 -- ---- atoms
 
 atom_by : (scope : Scope) (w : WordAt) (t : Token) (e : Expr) (o : Option ℕ) (b : Bool) (k : Option ℕ) →
-    number_value w.name ≡ o → is_name w.name ≡ b → last_index scope w.name ≡ k → IsWord w.name t → t.span ≡ w.span →
+    decimal_below (2 ^ 32) w.name ≡ o → is_name w.name ≡ b → last_index scope w.name ≡ k → IsWord w.name t → t.span ≡ w.span →
     spec.atom_from w.span o b k ≡ Some e → IsAtom scope e (t ∷ [])
 atom_by scope w t e (Some n) b k ho hb hk hw hs h =
     let (d, v, m) = number_ok w.name n ho in
@@ -112,7 +113,7 @@ atom_by scope w t e None false k ho hb hk hw hs h = cc
 atom_of_ok : (scope : Scope) (w : WordAt) (t : Token) (e : Expr) → IsWord w.name t → t.span ≡ w.span → spec.atom_of scope w ≡ Some e → IsAtom scope e (t ∷ [])
 unfolding spec.atom_of
 atom_of_ok scope w t e hw hs h =
-    atom_by scope w t e (number_value w.name) (is_name w.name) (last_index scope w.name) refl refl refl hw hs h
+    atom_by scope w t e (decimal_below (2 ^ 32) w.name) (is_name w.name) (last_index scope w.name) refl refl refl hw hs h
 
 known_ok : {A : Type 0} (o : Option A) (ts : Tokens) (x : A) (rest : Tokens) → known o ts ≡ Some (x, rest) → (o ≡ Some x) × (ts ≡ rest)
 known_ok None ts x rest h = cc

@@ -1,5 +1,5 @@
 -- A source's program is what the reader answers.
-use Rattle.std.proofs.Common.{◌≡◌, ℕ, List, [], Option, Some, None, Result, Ok, Err, IfOk, refl, ap, subst, ◌∙◌}
+use Rattle.std.proofs.Common.{◌≡◌, ℕ, ◌≤◌, List, [], length, Option, Some, None, Result, Ok, Err, IfOk, refl, ap, subst, ◌∙◌}
 use Rattle.std.specs.Result.{IsErrAnd}
 use Rattle.sums_ast.specs.declared.function.Function.{Function}
 use Rattle.sums_ast.specs.declared.function.Program.{Program}
@@ -15,6 +15,7 @@ use Rattle.sums_reader.proofs.Lexes.{scan_ok, lexed_scan}
 use Rattle.sums_reader.proofs.Blocks.{program_ok}
 use Rattle.sums_reader.proofs.FoundBlocks.{program_on}
 use Rattle.sums_reader.proofs.Typed.{reads_typed}
+use Rattle.sums_reader.proofs.Counts.{reads_few}
 
 -- ---- both directions
 
@@ -53,6 +54,10 @@ module _ (text : List ℕ) (ts : Tokens) (e : scan 0 [] text ≡ Some ts) where
   pub typed_clause : (r : Result Program ReadFault) → Gets (whole ts) r → IfOk r IsTyped
   typed_clause (Ok p) h = reads_typed text p (reads_by text ts p e h)
   typed_clause (Err f) h = tt
+
+  pub few_clause : (r : Result Program ReadFault) → Gets (whole ts) r → IfOk r (λ p. length p.functions ≤ length text)
+  few_clause (Ok p) h = reads_few text p (reads_by text ts p e h)
+  few_clause (Err f) h = tt
 
   pub refused_clause : (r : Result Program ReadFault) → Gets (whole ts) r → r ≡ Err Syntax → (q : Program) → Reads text q → ⊥
   refused_clause (Ok p) h k q m = cc

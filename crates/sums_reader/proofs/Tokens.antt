@@ -1,5 +1,5 @@
 -- What each reader of single tokens gives, and that it gives it.
-use Rattle.std.proofs.Common.{◌≡◌, ℕ, ◌+◌, ◌*◌, ◌-◌, ◌<◌, ◌≤◌, ◌^◌, Bool, true, false, not, ◌&&◌, ◌||◌, ◌==◌, nat_le, if◌then◌else◌, List, [], ◌∷◌, Option, Some, None, refl, sym, ap, subst, ◌∙◌, nat_lt, codes, is_some, arith}
+use Rattle.std.proofs.Common.{◌≡◌, ℕ, ◌-◌, ◌<◌, ◌≤◌, ◌^◌, Bool, true, false, not, ◌&&◌, ◌||◌, ◌==◌, nat_le, if◌then◌else◌, List, [], ◌∷◌, Option, Some, None, refl, sym, ap, subst, ◌∙◌, nat_lt, codes, is_some, arith}
 use Rattle.std.specs.List.{list_all, list_any}
 use Rattle.std.proofs.lemmas.Bool.{eqb-true, ltb-true, lt-ltb, leb-true}
 use Rattle.std.proofs.lemmas.Bool.Decides.{nat_tests}
@@ -12,10 +12,11 @@ use Rattle.source_meaning.specs.declared.token.Mark.{Mark}
 use Rattle.source_meaning.specs.declared.token.TokenKind.{TokenKind}
 use Rattle.source_meaning.specs.declared.token.TokenKind.TheVariants.{Word, Punct}
 use Rattle.source_meaning.specs.declared.token.Token.{Token}
-use Rattle.source_meaning.specs.Words.{is_letter, is_digit, is_number, digits_value, is_name as is_name_of, is_word_char, words, excluded_words}
+use Rattle.aen_base.specs.Decimals.{is_digit, is_number, digits_value, decimal_below}
+use Rattle.source_meaning.specs.Words.{is_letter, is_name as is_name_of, is_word_char, words, excluded_words}
 use Rattle.source_meaning.specs.Grammar.{IsMark, IsWord, IsName}
 use Rattle.sums_reader.specs.declared.cursor.WordAt.{WordAt}
-use Rattle.sums_reader.specs.Words.{is_name, number_from, number_value}
+use Rattle.sums_reader.specs.Words.{is_name}
 use Rattle.sums_reader.specs.Parser.{Tokens, Parser, and_then, where_, pure, tail}
 use Rattle.sums_reader.specs.Parse as spec
 
@@ -162,42 +163,22 @@ pub starts_keyword_other : (w v : List ℕ) (t : Token) (ts : Tokens) → IsWord
 unfolding spec.starts_keyword
 starts_keyword_other w v t ts h e = ap (spec.is_keyword w) h ∙ e
 
-pub starts_number_is : (v : List ℕ) (t : Token) (ts : Tokens) → IsWord v t → spec.starts_number (t ∷ ts) ≡ is_some (number_value v)
+pub starts_number_is : (v : List ℕ) (t : Token) (ts : Tokens) → IsWord v t → spec.starts_number (t ∷ ts) ≡ is_some (decimal_below (2 ^ 32) v)
 unfolding spec.starts_number
 starts_number_is v t ts h = ap spec.is_number h
 
 -- ---- numbers
 
-number_from_ok : (n : ℕ) (w : List ℕ) (m : ℕ) → n < 2 ^ 32 → number_from n w ≡ Some m →
-    (list_all is_digit w ≡ true) × (digits_value n w ≡ m) × (m < 2 ^ 32)
-number_from_ok n [] m b h = let e : n ≡ m = cc in (refl, e, subst (λ k. k < 2 ^ 32) e b)
-number_from_ok n (c ∷ w) m b h =
-    let (d, k) = only_if (is_digit c) (if nat_lt (n * 10 + (c - 48)) (2 ^ 32) then number_from (n * 10 + (c - 48)) w else None) m h in
-    let (l, j) = only_if (nat_lt (n * 10 + (c - 48)) (2 ^ 32)) (number_from (n * 10 + (c - 48)) w) m k in
-    let below : n * 10 + (c - 48) < 2 ^ 32 = ltb-true (n * 10 + (c - 48)) (2 ^ 32) l in
-    let (p, q, r) = number_from_ok (n * 10 + (c - 48)) w m below j in
-    (rw (d, p) refl, q, r)
-
-pub number_ok : (w : List ℕ) (n : ℕ) → number_value w ≡ Some n →
+pub number_ok : (w : List ℕ) (n : ℕ) → decimal_below (2 ^ 32) w ≡ Some n →
     (is_number w ≡ true) × (digits_value 0 w ≡ n) × (n < 2 ^ 32)
-number_ok [] n h = cc
-number_ok (c ∷ w) n h = number_from_ok 0 (c ∷ w) n (omega arith) h
+number_ok w n h =
+    let (t, k) = only_if (is_number w && nat_lt (digits_value 0 w) (2 ^ 32)) (Some (digits_value 0 w)) n h in
+    let (d, l) = both (is_number w) (nat_lt (digits_value 0 w) (2 ^ 32)) t in
+    let e : digits_value 0 w ≡ n = cc in
+    (d, e, subst (λ k. k < 2 ^ 32) e (ltb-true (digits_value 0 w) (2 ^ 32) l))
 
-grows : (n : ℕ) (w : List ℕ) → n ≤ digits_value n w
-grows n [] = omega arith
-grows n (c ∷ w) = omega (arith, grows (n * 10 + (c - 48)) w)
-
-number_from_on : (n : ℕ) (w : List ℕ) → list_all is_digit w ≡ true → digits_value n w < 2 ^ 32 → number_from n w ≡ Some (digits_value n w)
-number_from_on n [] h b = refl
-number_from_on n (c ∷ w) h b =
-    let (d, p) = both (is_digit c) (list_all is_digit w) h in
-    let g = grows (n * 10 + (c - 48)) w in
-    let l : nat_lt (n * 10 + (c - 48)) (2 ^ 32) ≡ true = lt-ltb (n * 10 + (c - 48)) (2 ^ 32) (omega (arith, g, b)) in
-    rw (d, l) (number_from_on (n * 10 + (c - 48)) w p b)
-
-pub number_on : (w : List ℕ) → is_number w ≡ true → digits_value 0 w < 2 ^ 32 → number_value w ≡ Some (digits_value 0 w)
-number_on [] h b = cc
-number_on (c ∷ w) h b = number_from_on 0 (c ∷ w) h b
+pub number_on : (w : List ℕ) → is_number w ≡ true → digits_value 0 w < 2 ^ 32 → decimal_below (2 ^ 32) w ≡ Some (digits_value 0 w)
+number_on w h b = rw (h, lt-ltb (digits_value 0 w) (2 ^ 32) b) refl
 
 case_or : {P : Type 0} → (a b : Bool) → (a || b) ≡ true → (a ≡ true → P) → (b ≡ true → P) → P
 case_or true b h f g = f refl
@@ -226,7 +207,7 @@ name_first c w h =
     front (is_letter c) (list_all is_word_char (c ∷ w)) (not (bytes_eq (c ∷ w) (codes "_"))) (not (list_any (bytes_eq (c ∷ w)) words)) (not (list_any (bytes_eq (c ∷ w)) excluded_words)) h
 
 -- a name is no number
-pub name_number : (w : List ℕ) → is_name_of w ≡ true → number_value w ≡ None
+pub name_number : (w : List ℕ) → is_name_of w ≡ true → decimal_below (2 ^ 32) w ≡ None
 name_number [] h = refl
 name_number (c ∷ w) h =
     let first = is_letter c in

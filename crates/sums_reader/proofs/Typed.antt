@@ -6,7 +6,7 @@ use Rattle.sums_ast.specs.Tree.{Expr, number, variable, binary, call, Exprs, no_
 use Rattle.sums_ast.specs.declared.function.Function.{Function}
 use Rattle.sums_ast.specs.declared.function.Program.{Program}
 use Rattle.source_meaning.specs.declared.token.Token.{Token}
-use Rattle.source_meaning.specs.Words.{digits_value}
+use Rattle.aen_base.specs.Decimals.{digits_value}
 use Rattle.source_meaning.specs.Grammar.{IsList, IsAtom, IsTerm, IsSum, IsBody, IsBlock, IsFunction, AreFunctions, Reads}
 use Rattle.source_meaning.specs.Typing.{IsTypedExpr, AreTypedExprs, IsTypedBody, IsTypedBlock, IsTypedFunction, AreTyped, IsTyped}
 
@@ -51,7 +51,7 @@ module _ (fs : List Function) where
   block_typed vars k (block s sts last) ts (o, inner, c, e, mo, mc, body, sp) = body_typed vars k sts last inner body
 
   function_typed : (f : Function) (l : List Token) → IsFunction fs f l → IsTypedFunction fs f
-  function_typed f l h = record { named = h.10.1; new = h.20; within = h.16; body = block_typed f.variables f.parameters f.body h.7 h.19 }
+  function_typed f l h = record { named = h.10.1; new = h.20; within = h.16; differ = h.18; body = block_typed f.variables f.parameters f.body h.7 h.19 }
 
 functions_typed : (fs gs : List Function) (ts : List Token) → AreFunctions fs gs ts → AreTyped fs gs
 functions_typed fs [] ts h = tt

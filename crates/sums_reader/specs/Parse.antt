@@ -1,5 +1,5 @@
 -- Reading the tokens of a source, a rule for each production.
-use Rattle.std.specs.Prelude.{ℕ, zero, suc, Bool, true, false, not, if◌then◌else◌, List, [], ◌∷◌, ◌++◌, length, Option, Some, None, is_some, pos, codes}
+use Rattle.std.specs.Prelude.{ℕ, zero, suc, ◌^◌, Bool, true, false, not, if◌then◌else◌, List, [], ◌∷◌, ◌++◌, length, Option, Some, None, is_some, pos, codes}
 use Rattle.std.specs.Str.{bytes_eq}
 use denote.Enum.Bare.{sameb}
 use Rattle.aen_base.specs.declared.span.Span.{Span}
@@ -7,7 +7,7 @@ use Rattle.aen_base.specs.declared.int_ty.IntTy.TheVariants.{U32}
 use Rattle.aen_base.specs.declared.operators.BinOp.TheVariants.{Add}
 use Rattle.aen_base.specs.Arithmetic.{number as number_of}
 use Rattle.sums_ast.specs.Tree as tree
-use Rattle.sums_ast.specs.Tree.{Expr, Stmt, Block}
+use Rattle.sums_ast.specs.Tree.{Expr, Stmt}
 use Rattle.sums_ast.specs.declared.function.Function.{Function}
 use Rattle.sums_ast.specs.declared.function.Program.{Program}
 use Rattle.source_meaning.specs.contracts.token.Mark.{the_type}
@@ -19,7 +19,8 @@ use Rattle.sums_reader.specs.declared.cursor.WordAt.{WordAt}
 use Rattle.sums_reader.specs.declared.statements.Binding.{Binding}
 use Rattle.sums_reader.specs.declared.statements.Bindings.{Bindings}
 use Rattle.sums_reader.specs.declared.statements.Body.{Body}
-use Rattle.sums_reader.specs.Words.{is_name, number_value}
+use Rattle.aen_base.specs.Decimals.{decimal_below}
+use Rattle.sums_reader.specs.Words.{is_name}
 use Rattle.sums_reader.specs.Lookup.{last_index, names, callee}
 use Rattle.sums_reader.specs.Parser.{Tokens, Parser, and_then, ◌>>=◌, ◌>>◌, pure, known, where_, tail}
 
@@ -37,7 +38,7 @@ is_keyword w (Punct n) = false
 
 -- whether a token is a number below 2^32 (LANGUAGE.md, "Tokens")
 abbrev pub is_number : TokenKind → Bool
-is_number (Word v) = is_some (number_value v)
+is_number (Word v) = is_some (decimal_below (2 ^ 32) v)
 is_number (Punct n) = false
 
 -- whether the next token is this punctuation
@@ -105,7 +106,7 @@ atom_from s None false o = None
 
 -- the number or the variable that a word is
 unfoldable pub atom_of : Scope → WordAt → Option Expr
-atom_of scope w = atom_from w.span (number_value w.name) (is_name w.name) (last_index scope w.name)
+atom_of scope w = atom_from w.span (decimal_below (2 ^ 32) w.name) (is_name w.name) (last_index scope w.name)
 
 -- an argument (LANGUAGE.md, "Grammar")
 unfoldable pub atom : Scope → Parser Expr

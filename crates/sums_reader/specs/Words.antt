@@ -1,8 +1,8 @@
--- The words in groups, and the value of a number.
-use Rattle.std.specs.Prelude.{ℕ, ◌+◌, ◌-◌, ◌*◌, ◌^◌, Bool, List, [], ◌∷◌, Option, Some, None, if◌then◌else◌, nat_lt, take, drop}
+-- The words in groups.
+use Rattle.std.specs.Prelude.{ℕ, Bool, List, take, drop}
 use Rattle.std.specs.List.{list_any}
 use Rattle.std.specs.Str.{bytes_eq}
-use Rattle.source_meaning.specs.Words.{words, excluded_words, is_digit, is_name as is_name_of}
+use Rattle.source_meaning.specs.Words.{words, excluded_words, is_name as is_name_of}
 
 -- a word of the language that is no type (LANGUAGE.md, "Tokens")
 unfoldable pub is_keyword : List ℕ → Bool
@@ -33,16 +33,3 @@ is_excluded w = list_any (bytes_eq w) excluded_words
 -- a name
 unfoldable pub is_name : List ℕ → Bool
 is_name w = is_name_of w
-
--- the number that digits write after the digits that were read, if it is below 2^32
-abbrev pub number_from : ℕ → List ℕ → Option ℕ
-number_from n [] = Some n
-number_from n (c ∷ cs) =
-    if is_digit c
-    then (if nat_lt (n * 10 + (c - 48)) (2 ^ 32) then number_from (n * 10 + (c - 48)) cs else None)
-    else None
-
--- the number that a text writes, if it is digits and below 2^32
-abbrev pub number_value : List ℕ → Option ℕ
-number_value [] = None
-number_value (c ∷ cs) = number_from 0 (c ∷ cs)

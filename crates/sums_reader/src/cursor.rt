@@ -5,8 +5,8 @@ ghost use Rattle.sums_reader.specs.Parse as spec;
 ghost use Rattle.sums_reader.specs.Parser.{Gives, tail};
 
 use crate::ReadFault;
-use crate::words::{is_name, number_value};
-use aen_base::{Name, Span};
+use crate::words::is_name;
+use aen_base::{Name, Span, decimal_u32};
 use source_meaning::{Mark, Token, TokenKind};
 use std::alloc::Global;
 
@@ -48,7 +48,7 @@ fn is_number(kind: &TokenKind) -> bool
     ensures { result ≡ spec.is_number kind.now }
 {
     match kind {
-        TokenKind::Word(word) => number_value(word.as_str().as_bytes()).is_some(),
+        TokenKind::Word(word) => decimal_u32(word.as_str().as_bytes()).is_some(),
         TokenKind::Punct(_) => false,
     }
 }

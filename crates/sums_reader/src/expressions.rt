@@ -9,8 +9,8 @@ use crate::ReadFault;
 use crate::cursor::{Reader, WordAt};
 use crate::earlier::Earlier;
 use crate::scope::Scope;
-use crate::words::{is_name, number_value};
-use aen_base::{BinOp, FnId, IntTy, List, Span, VarId, num};
+use crate::words::is_name;
+use aen_base::{BinOp, FnId, IntTy, List, Span, VarId, decimal_u32, num};
 use source_meaning::Mark;
 use std::alloc::Global;
 use sums_ast::{Expr, ExprNode};
@@ -40,7 +40,7 @@ fn atom_of(scope: &Scope, word: &WordAt) -> Result<Expr, ReadFault>
     ensures { Gets (spec.atom_of scope.now word.now) result }
 {
     let text = word.name.as_str().as_bytes();
-    if let Some(value) = number_value(text) {
+    if let Some(value) = decimal_u32(text) {
         let Some(number) = num(IntTy::U32, false, value as u128) else {
             return Err(ReadFault::Syntax);
         };

@@ -1,4 +1,4 @@
-ghost use Rattle.std.specs.Prelude.{◌≡◌, ◌<◌, ◌^◌, length, IfOk};
+ghost use Rattle.std.specs.Prelude.{◌≡◌, ◌<◌, ◌≤◌, ◌^◌, length, IfOk};
 ghost use Rattle.sums_ast.specs.declared.function.Program.{Program};
 ghost use Rattle.source_meaning.specs.Grammar.{Reads};
 ghost use Rattle.source_meaning.specs.Typing.{IsTyped};
@@ -32,6 +32,7 @@ pub fn read(alloc: Global, content: &[u8]) -> Result<Program, ReadFault>
     ensures read { IfOk result (λ p. Reads content.now p) }
     ensures only { IfOk result (λ p. (q : Program) → Reads content.now q → q ≡ p) }
     ensures typed { IfOk result IsTyped }
+    ensures few { IfOk result (λ p. length p.functions ≤ length content.now) }
     ensures refused { result ≡ Err Syntax → (q : Program) → Reads content.now q → ⊥ }
 {
     let tokens = lex(alloc, content)?;

@@ -1,8 +1,7 @@
-//! Characters, words, names and numbers.
+//! Characters, words and names.
 
-ghost use Rattle.std.specs.Prelude.{◌≡◌, ℕ, ◌<◌, ◌≤◌, ◌^◌, ◌&&◌, Some, None, if◌then◌else◌, nat_lt};
-ghost use Rattle.std.specs.List.{list_any, list_all};
-ghost use Rattle.std.specs.Str.{bytes_eq};
+ghost use Rattle.std.specs.Prelude.{◌≡◌};
+ghost use Rattle.std.specs.List.{list_all};
 ghost use Rattle.source_meaning.specs.Words as spec;
 ghost use Rattle.sums_reader.specs.Words as parts;
 
@@ -11,13 +10,6 @@ pub(crate) fn is_space(c: u8) -> bool
     ensures { result ≡ spec.is_space c }
 {
     matches!(c, b' ' | b'\t' | b'\n' | b'\r')
-}
-
-/// Whether a byte is a digit.
-fn is_digit(c: u8) -> bool
-    ensures { result ≡ spec.is_digit c }
-{
-    b'0' <= c && c <= b'9'
 }
 
 /// Whether a byte is an ASCII letter or `_`.
@@ -31,7 +23,7 @@ fn is_letter(c: u8) -> bool
 pub(crate) fn is_word_char(c: u8) -> bool
     ensures { result ≡ spec.is_word_char c }
 {
-    is_letter(c) || is_digit(c)
+    is_letter(c) || c.is_ascii_digit()
 }
 
 /// Whether every byte belongs to a word.
@@ -185,24 +177,4 @@ pub(crate) fn is_name(w: &[u8]) -> bool
     ensures { result ≡ parts.is_name w.now }
 {
     begins_name(w) && are_word_chars(w) && !(w == b"_".as_slice()) && !is_word(w) && !is_excluded(w)
-}
-
-/// The number that a text writes, if it is decimal digits and below 2^32.
-pub(crate) fn number_value(w: &[u8]) -> Option<u32>
-    ensures { result ≡ parts.number_value w.now }
-{
-    if w.is_empty() {
-        return None;
-    }
-    let mut value = 0u64;
-    for c in w {
-        if !is_digit(*c) {
-            return None;
-        }
-        value = value * 10 + (*c - b'0') as u64;
-        if value > 0xffff_ffff {
-            return None;
-        }
-    }
-    Some(value as u32)
 }

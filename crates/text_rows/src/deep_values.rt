@@ -53,6 +53,6 @@ fn copies_a_deep_value(rt: HostRuntime) -> Result<(), Fail> {
         return Ok(assert!(rt; false));
     };
     let inner = under(value, DEPTH).ok_or("it is as deep")?;
-    assert!(rt; matches!(inner.node, PValueNode::Bool(true)));
+    assert!(rt; matches!(&inner.node, PValueNode::Bool(true)));
     Ok(())
 }

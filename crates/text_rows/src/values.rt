@@ -1,30 +1,44 @@
 //! Words are read as values, and printed as they were written.
 use crate::round_trips::TEXT;
+use aen_base::{List, NoMem, Text};
 use lean_reader::{def_named, print_atom, read_args, read_defs};
+use std::alloc::Global;
 use std::test::Fail;
 
-/// The words of a call of `fn.«é»`.
-const WORDS: [&str; 4] = [
-    "(L.cons 255#U8 L.nil)",
-    "true",
-    "(1#U8, -2#I128)",
-    "(Exit.brk 3#U8)",
-];
+/// The arguments of a call of `fn.«é»`, read and printed again; None where they are not read.
+fn printed(alloc: Global) -> Result<Option<List<Text>>, NoMem> {
+    let Ok(defs) = read_defs(alloc, TEXT) else {
+        return Ok(None);
+    };
+    let Some(def) = def_named(&defs, "fn.«é»") else {
+        return Ok(None);
+    };
+    let mut words = Vec::new(alloc);
+    words.push(String::from_str(alloc, "(L.cons 255#U8 L.nil)")?)?;
+    words.push(String::from_str(alloc, "true")?)?;
+    words.push(String::from_str(alloc, "(1#U8, -2#I128)")?)?;
+    words.push(String::from_str(alloc, "(Exit.brk 3#U8)")?)?;
+    let Ok(args) = read_args(alloc, &defs, def, &[], words.as_slice()) else {
+        return Ok(None);
+    };
+    let mut atoms = List::new(alloc);
+    for value in args.as_slice() {
+        atoms.push(print_atom(alloc, &defs, value)?)?;
+    }
+    Ok(Some(atoms))
+}
 
 #[test]
 fn arguments_are_printed_as_they_were_written(rt: HostRuntime) -> Result<(), Fail> {
-    let defs = read_defs(rt.alloc(), TEXT).ok().ok_or("it is a text")?;
-    let def = def_named(&defs, "fn.«é»").ok_or("it is a definition")?;
-    let mut words = Vec::new(rt.alloc());
-    for word in WORDS {
-        words.push(String::from_str(rt.alloc(), word)?)?;
-    }
-    let args = read_args(rt.alloc(), &defs, def, &[], words.as_slice())
-        .ok()
-        .ok_or("they are arguments")?;
-    assert_eq!(rt; args.as_slice().len(), WORDS.len());
-    for (value, word) in args.as_slice().iter().zip(WORDS) {
-        let atom = print_atom(rt.alloc(), &defs, value)?;
+    let atoms = printed(rt.alloc())?.ok_or("they are arguments")?;
+    let words = [
+        "(L.cons 255#U8 L.nil)",
+        "true",
+        "(1#U8, -2#I128)",
+        "(Exit.brk 3#U8)",
+    ];
+    assert_eq!(rt; atoms.len(), words.len());
+    for (atom, word) in atoms.as_slice().iter().zip(words) {
         assert_eq!(rt; atom.as_str(), word);
     }
     Ok(())

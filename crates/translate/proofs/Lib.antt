@@ -5,10 +5,10 @@ pub mod Frames
 pub mod Expressions
 pub mod Bodies
 pub mod Meaning
-pub mod Spines
 pub mod Items
 pub mod Steps
 pub mod Statements
 pub mod Names
 pub mod Distinct
 pub mod WellFormed
+pub mod Scoping

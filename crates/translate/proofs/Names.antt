@@ -9,7 +9,8 @@ use Rattle.unicode_ident.specs.Ident.{is_xid_continue}
 use Rattle.unicode_ident.proofs.IdentLemmas.{is_xid_start-ascii, is_xid_continue-ascii}
 use Rattle.unicode_normalization.proofs.FormsLemmas.{normalize-ascii}
 use Rattle.unicode_normalization.specs.Forms.{nfc}
-use Rattle.source_meaning.specs.Words.{is_letter, is_digit, is_word_char, begins_name, is_name, words, excluded_words}
+use Rattle.aen_base.specs.Decimals.{is_digit}
+use Rattle.source_meaning.specs.Words.{is_letter, is_word_char, begins_name, is_name, words, excluded_words}
 use Rattle.text_meaning.specs.Names.{IsName, begins, starts_identifier, is_identifier}
 
 or_split : (a b : Bool) → (a || b) ≡ true → (a ≡ true) ⊎ (b ≡ true)

@@ -30,7 +30,7 @@ use Rattle.translate.specs.Lists.{u32_type}
 use Rattle.translate.specs.Emit.{term_of, known, Emitted, EmittedAll, operation, emit, emit_all, emit_body, emit_block, chain, emitted, parameter_atoms, definition, definitions, translation}
 use Rattle.translate.specs.Adds.{IsNumbered, AreNumbered}
 use Rattle.translate.proofs.Items.{each_push}
-use Rattle.translate.proofs.Places.{get_left_some}
+use Rattle.source_meaning.specs.PlaceLemmas.{get_left_some}
 use Rattle.translate.proofs.Meaning.{definitions_get}
 use Rattle.translate.proofs.Distinct.{names_are, names_differ, kinds_differ, in_order}
 
@@ -43,7 +43,7 @@ each_join : {X : Type 0} (P : X → Type 0) (xs ys : List X) → Each P xs → E
 each_join P [] ys h k = k
 each_join P (x ∷ xs) ys (hx, h) k = (hx, each_join P xs ys h k)
 
-each_get : {X : Type 0} (P : X → Type 0) (xs : List X) (k : ℕ) (x : X) → Each P xs → slice_get xs k ≡ Some x → P x
+pub each_get : {X : Type 0} (P : X → Type 0) (xs : List X) (k : ℕ) (x : X) → Each P xs → slice_get xs k ≡ Some x → P x
 each_get P [] k x h e = absurd (cc)
 each_get P (y ∷ xs) zero x (hy, h) e = subst P (same_Some y x e) hy
 each_get P (y ∷ xs) (suc k) x (hy, h) e = each_get P xs k x h e

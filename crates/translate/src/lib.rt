@@ -10,6 +10,7 @@ mod spine;
 
 ghost use Rattle.std.specs.Prelude.{IfOk};
 ghost use Rattle.source_meaning.specs.Typing.{IsTyped};
+ghost use Rattle.text_meaning.specs.Scoped.{IsScoped};
 ghost use Rattle.text_meaning.specs.WellFormed.{IsWellFormed};
 ghost use Rattle.translate.specs.Lists.{Lists};
 ghost use Rattle.translate.specs.Means.{Means};
@@ -26,6 +27,7 @@ pub fn translate(alloc: Global, program: &Program) -> Result<Defs, NoMem>
     ensures lists { IfOk result (Lists program.now) }
     ensures means { IfOk result (Means program.now) }
     ensures well_formed { IfOk result IsWellFormed }
+    ensures scoped { IfOk result IsScoped }
 {
     definitions(alloc, program)
 }

@@ -3,6 +3,7 @@ use Rattle.std.specs.Prelude.{IfOk}
 use Rattle.aen_base.specs.declared.memory.NoMem.{NoMem}
 use Rattle.sums_ast.specs.declared.function.Program.{Program}
 use Rattle.source_meaning.specs.Typing.{IsTyped}
+use Rattle.text_meaning.specs.Scoped.{IsScoped}
 use Rattle.text_meaning.specs.WellFormed.{IsWellFormed}
 use Rattle.std.proofs.lemmas.Result.{IfOk-weaker}
 use Rattle.pure_ast.specs.declared.def.Defs.{Defs}
@@ -12,6 +13,7 @@ use Rattle.translate.specs.Emit.{translation}
 use Rattle.translate.specs.Adds.{AreNumbered}
 use Rattle.translate.proofs.Meaning.{means, lists}
 use Rattle.translate.proofs.WellFormed.{well_formed}
+use Rattle.translate.proofs.Scoping.{scoped}
 use Rattle.translate.proofs.translate.Goals as goal
 
 pub returns-clause-lists : goal.returns-clause-lists
@@ -31,3 +33,8 @@ formed (Err e) p typed is small = tt
 pub returns-clause-well_formed : goal.returns-clause-well_formed
 returns-clause-well_formed c =
     formed c.definitions.result c.args.program.now c.requires c.definitions.ensures.same c.definitions.ensures.small
+
+pub returns-clause-scoped : goal.returns-clause-scoped
+returns-clause-scoped c =
+    let p = c.args.program.now in
+    IfOk-weaker c.definitions.result (λ (d : Defs). d ≡ translation p) IsScoped (λ d is. subst IsScoped (sym is) (scoped p c.requires)) c.definitions.ensures.same

@@ -1,5 +1,6 @@
 use Rattle.std.proofs.Common.{◌≡◌, ◌≤◌, ◌+◌, ◌-◌, vec_len}
 use Rattle.aen_io.proofs.Fronts.{IsFront}
+use Rattle.aen_io.proofs.Logs.{IsReadSoFar}
 use Rattle.aen_io.proofs.reading.read_turns.Given as goal
 
 abbrev pub invariant-loop-whole : goal.invariant-loop-whole
@@ -8,6 +9,7 @@ invariant-loop-whole g l = record {
   within : vec_len l.whole ≤ l.most;
   kept : g.F.Files.told l.files ≡ g.F.Files.told l.fn.files;
   later : g.F.Files.faults l.fn.files ≤ g.F.Files.faults l.files;
+  reads : IsReadSoFar l.name (g.F.Files.handed l.fn.files) (g.F.Files.handed l.files) l.whole.items;
   front : IsFront (g.F.Files.told l.fn.files) l.name l.whole.items;
 }
 

@@ -9,5 +9,5 @@ loop-done-preserved g c =
     record {
       within = turn_within c.args.bytes.now c.loop-done.done c.in_ok-taken.taken here.within ok.bound;
       later = omega (arith, here.later, c.write.ensures.later);
-      written = writes_turn _ _ _ c.args.bytes.now c.loop-done.done c.in_ok-taken.taken here.written ok.taken;
+      written = writes_turn _ _ _ c.args.bytes.now c.loop-done.done c.in_ok-taken.taken here.written ok.takes;
     }

@@ -6,7 +6,7 @@ abbrev pub invariant-loop-done : goal.invariant-loop-done
 invariant-loop-done g l = record {
   within : l.done ≤ length l.bytes;
   later : g.K.Sink.faults l.fn.out ≤ g.K.Sink.faults l.out;
-  written : WritesAll (g.K.Sink.written l.fn.out) (g.K.Sink.written l.out) (take l.done l.bytes);
+  written : WritesAll (g.K.Sink.taken l.fn.out) (g.K.Sink.taken l.out) (take l.done l.bytes);
 }
 
 abbrev pub decreases-loop-done : goal.decreases-loop-done

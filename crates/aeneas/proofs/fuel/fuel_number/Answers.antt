@@ -1,13 +1,9 @@
-use Rattle.std.proofs.Common.{◌+◌, ◌*◌, ◌≤◌, ◌^◌, arith}
-use Rattle.aeneas.proofs.FuelLemmas.{room}
+use Rattle.std.proofs.Common.{sym, ◌∙◌, arith}
+use Rattle.aeneas.proofs.FuelLemmas.{small_fuel, no_fuel}
 use Rattle.aeneas.proofs.fuel.fuel_number.Goals as goal
 
-pub overflow_mul-number : goal.overflow_mul-number
-overflow_mul-number c =
-    let most : (c.loop-byte.number + 1) * 10 ≤ 10 ^ 18 = room c.loop-byte.number c.loop-byte.byte-index c.loop-byte.invariant.small (omega arith) in
-    omega arith
+pub overflow_cast-result : goal.overflow_cast-result
+overflow_cast-result c = let small = small_fuel c.args.word.now c.in-Some.number (omega arith) (sym c.decimal.ensures ∙ c.in-Some.is) in omega arith
 
-pub overflow_add-number : goal.overflow_add-number
-overflow_add-number c =
-    let most : (c.loop-byte.number + 1) * 10 ≤ 10 ^ 18 = room c.loop-byte.number c.loop-byte.byte-index c.loop-byte.invariant.small (omega arith) in
-    grind (arith, most, c.from.ensures, c.if-not-is_ascii_digit.ensures.cases, c.if-not-is_ascii_digit.ensures.bound)
+pub returns-in-None : goal.returns-in-None
+returns-in-None c = no_fuel c.args.word.now (omega arith) (sym c.decimal.ensures ∙ c.in-None.is)

@@ -1,5 +1,5 @@
 use Rattle.std.proofs.Common.{ap, sym, ◌∙◌, Some}
-use Rattle.sums_reader.proofs.Sources.{read_clause, only_clause, typed_clause, refused_clause, refused_text}
+use Rattle.sums_reader.proofs.Sources.{read_clause, only_clause, typed_clause, few_clause, refused_clause, refused_text}
 use Rattle.sums_reader.proofs.read_source.read.Goals as goal
 
 pub returns-in_err-tokens-clause-refused : goal.returns-in_err-tokens-clause-refused
@@ -13,6 +13,9 @@ returns-clause-only c = only_clause c.args.content.now c.as_slice.result.now (c.
 
 pub returns-clause-typed : goal.returns-clause-typed
 returns-clause-typed c = typed_clause c.args.content.now c.as_slice.result.now (c.in_ok-tokens.ensures ∙ ap Some (sym c.as_slice.ensures)) c.parse.result c.parse.ensures
+
+pub returns-clause-few : goal.returns-clause-few
+returns-clause-few c = few_clause c.args.content.now c.as_slice.result.now (c.in_ok-tokens.ensures ∙ ap Some (sym c.as_slice.ensures)) c.parse.result c.parse.ensures
 
 pub returns-clause-refused : goal.returns-clause-refused
 returns-clause-refused c = refused_clause c.args.content.now c.as_slice.result.now (c.in_ok-tokens.ensures ∙ ap Some (sym c.as_slice.ensures)) c.parse.result c.parse.ensures

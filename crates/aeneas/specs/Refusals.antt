@@ -1,0 +1,47 @@
+-- The refusals: each with its status and its line (README.md, "Statuses").
+use Rattle.std.specs.Prelude.{◌≡◌, ℕ, List, ◌++◌, codes}
+use Rattle.std.specs.Fmt.{decimal}
+use Rattle.aeneas.specs.declared.refusal.Refusal.{Refusal}
+use Rattle.aeneas.specs.declared.refusal.Refusal.TheVariants.{Usage, Read, Utf8, Syntax, Limit, Count, Argument, Types, Text, Name}
+use Rattle.aeneas.specs.Limits.{limit_word}
+use Rattle.aeneas.specs.Lines.{line}
+
+-- the status
+abbrev pub refusal_status : Refusal → ℕ
+refusal_status Usage = 1
+refusal_status Read = 2
+refusal_status (Utf8 valid) = 4
+refusal_status Syntax = 5
+refusal_status (Limit which count) = 10
+refusal_status (Count expected given) = 11
+refusal_status (Argument place) = 11
+refusal_status Types = 11
+refusal_status (Text span) = 12
+refusal_status Name = 13
+
+-- what the line says of it
+abbrev pub refusal_text : Refusal → List ℕ
+refusal_text Usage = codes "usage"
+refusal_text Read = codes "read"
+refusal_text (Utf8 valid) = codes "utf8 " ++ decimal valid
+refusal_text Syntax = codes "syntax"
+refusal_text (Limit which count) = codes "limit " ++ (limit_word which ++ (codes " " ++ decimal count))
+refusal_text (Count expected given) = codes "count " ++ (decimal expected ++ (codes " " ++ decimal given))
+refusal_text (Argument place) = codes "argument " ++ decimal place
+refusal_text Types = codes "types"
+refusal_text (Text span) = codes "text " ++ (decimal span.lo ++ (codes ".." ++ decimal span.hi))
+refusal_text Name = codes "name"
+
+-- the line: `refused`, the status, and what it says
+abbrev pub refusal_line : Refusal → List ℕ
+refusal_line r = codes "refused " ++ (decimal (refusal_status r) ++ (codes " " ++ line (refusal_text r)))
+
+-- a reply is this refusal
+abbrev pub IsRefusal : Refusal → ℕ → List ℕ → Type 0
+IsRefusal r status text = (status ≡ refusal_status r) × (text ≡ refusal_line r)
+
+-- a reply is a refusal with such a cause
+pub record IsRefusedBy (Cause : Refusal → Type 0) (status : ℕ) (text : List ℕ) : Type 0 where
+  pub refusal : Refusal
+  pub cause : Cause refusal
+  pub answer : IsRefusal refusal status text

@@ -1,0 +1,16 @@
+pub mod TestLemmas
+pub mod WordLemmas
+pub mod FrontLemmas
+pub mod StringLemmas
+pub mod CommentLemmas
+pub mod SuffixLemmas
+pub mod NumberLemmas
+pub mod IdentifierLemmas
+pub mod ValueLemmas
+pub mod MarkLemmas
+pub mod FirstBytes
+pub mod LongestSlices
+pub mod Boundaries
+pub mod StepLemmas
+pub mod LexingLemmas
+pub mod SliceLemmas

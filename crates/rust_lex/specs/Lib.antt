@@ -1,0 +1,10 @@
+pub mod Characters
+pub mod Words
+pub mod WordGroups
+pub mod Identifiers
+pub mod Numbers
+pub mod Punctuation
+pub mod Comments
+pub mod Lexing
+pub mod Scan
+pub mod Slices

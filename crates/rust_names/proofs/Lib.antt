@@ -1,7 +1,0 @@
-pub mod Placing
-pub mod Walking
-pub mod TypeLists
-pub mod PatternLists
-pub mod UseLists
-pub mod ScopeTables
-pub mod Entering

@@ -1,0 +1,4 @@
+pub mod Limits
+pub mod Levels
+pub mod Spelled
+pub mod Refusals

@@ -1,0 +1,11 @@
+pub mod Sound
+pub mod Theorem
+pub mod Beginnings
+pub mod Stepping
+pub mod Pieces
+pub mod Readings
+pub mod Unique
+pub mod Leading
+pub mod Entering
+pub mod Turning
+pub mod Whole

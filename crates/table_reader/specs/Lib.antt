@@ -1,0 +1,8 @@
+pub mod Derivations
+pub mod Steps
+pub mod Stacks
+pub mod Conditions
+pub mod Reading
+pub mod Making
+pub mod Building
+pub mod Machine

@@ -1,0 +1,111 @@
+-- How lexemes are read on two stacks, the newest first: of what is to come, and of values.
+use Rattle.std.specs.Prelude.{◌≡◌, ℕ, zero, suc, Bool, true, false, if◌then◌else◌, List, [], ◌∷◌, ◌++◌, map, Option, Some, None}
+use Rattle.std.specs.List.{list_any}
+use Rattle.table_reader.specs.declared.coming.Coming.{Coming}
+use Rattle.table_reader.specs.declared.coming.Coming.TheVariants as C
+use Rattle.table_reader.specs.declared.item.Item.{Item}
+use Rattle.table_reader.specs.declared.item.Item.TheVariants as I
+use Rattle.table_reader.specs.declared.symbol.Symbol.{Symbol}
+use Rattle.table_reader.specs.declared.symbol.Symbol.TheVariants as S
+use Rattle.table_reader.specs.declared.take.Take.{Take}
+use Rattle.table_reader.specs.declared.take.Take.TheVariants as K
+use Rattle.table_reader.specs.Derivations.{IsOneOf}
+use Rattle.table_reader.specs.Conditions.{accepts, heads}
+use Rattle.table_reader.specs.Steps.{one_more}
+use Rattle.table_reader.specs.Reading.{Made}
+use Rattle.table_reader.specs.Building.{MakesBy}
+
+abbrev pub coming : {T N : Type 0} → Symbol T N → Coming T N
+coming (S.Token t) = C.Token t
+coming (S.Part n) = C.Part n
+
+-- what is to come without the marks of productions that are over
+abbrev pub symbols : {T N : Type 0} → List (Coming T N) → List (Symbol T N)
+symbols [] = []
+symbols (C.Token t ∷ rest) = S.Token t ∷ symbols rest
+symbols (C.Part n ∷ rest) = S.Part n ∷ symbols rest
+symbols (C.Over n i ∷ rest) = symbols rest
+
+-- an item stands in this place of a list
+abbrev pub IsAt : {A : Type 0} → A → ℕ → List A → Type 0
+IsAt x i [] = ⊥
+IsAt x zero (y ∷ ys) = x ≡ y
+IsAt x (suc i) (y ∷ ys) = IsAt x i ys
+
+-- the place of the first item that passes a test
+abbrev pub first_place : {A : Type 0} → (A → Bool) → List A → Option ℕ
+first_place test [] = None
+first_place test (x ∷ xs) = if test x then Some 0 else one_more (first_place test xs)
+
+abbrev pub is_empty : {A : Type 0} → List A → Bool
+is_empty [] = true
+is_empty (x ∷ xs) = false
+
+-- symbols that are to come somewhere in lexemes of a part
+pub data IsReached {T N : Type 0} (productions : N → List (List (Symbol T N))) : List (Symbol T N) → Type 0 where
+  start : (n : N) → IsReached productions (S.Part n ∷ [])
+  token : {t : T} {rest : List (Symbol T N)} → IsReached productions (S.Token t ∷ rest) → IsReached productions rest
+  part : {n : N} {rest : List (Symbol T N)} (p : List (Symbol T N)) → IsOneOf p (productions n) → IsReached productions (S.Part n ∷ rest) → IsReached productions (p ++ rest)
+
+-- whether a lexeme is taken by a token that these productions begin with
+abbrev pub begins : {T N L : Type 0} → (T → L → Take L) → (N → List (List (Symbol T N))) → ℕ → List (List (Symbol T N)) → L → Bool
+begins takes productions d ps l = list_any (λ t. accepts (takes t l)) (heads productions d ps)
+
+-- the place of the production of a part that begins with a lexeme
+abbrev pub begun : {T N L : Type 0} → (T → L → Take L) → (N → List (List (Symbol T N))) → ℕ → N → L → Option ℕ
+begun takes productions rank n l = first_place (λ p. begins takes productions rank (p ∷ []) l) (productions n)
+
+-- a production that is not empty stands in this place
+pub record HasFirst {T N : Type 0} (productions : N → List (List (Symbol T N))) (n : N) (i : ℕ) : Type 0 where
+  pub first : Symbol T N
+  pub rest : List (Symbol T N)
+  pub at : IsAt (first ∷ rest) i (productions n)
+
+-- the place of the empty production of a part
+abbrev pub empty_place : {T N : Type 0} → (N → List (List (Symbol T N))) → N → Option ℕ
+empty_place productions n = first_place is_empty (productions n)
+
+module _ {T N L V : Type 0} (takes : T → L → Take L) (carrier : N → Type 0) (made : (n : N) → List (Made T N L carrier n)) (held : (n : N) → carrier n → V) where
+  -- with this to come and these values, lexemes lead to these values in the end
+  pub data Leads : List (Coming T N) → List (Item L V) → List L → List (Item L V) → Type 0 where
+    over : {values : List (Item L V)} → Leads [] values [] values
+    token : {t : T} {l : L} {rest : List (Coming T N)} {values last : List (Item L V)} {ls : List L} →
+        takes t l ≡ K.Whole → Leads rest (I.Token l ∷ values) ls last → Leads (C.Token t ∷ rest) values (l ∷ ls) last
+    piece : {t : T} {l : L} {rest : List (Coming T N)} {values last : List (Item L V)} {ls : List L} (taken left : L) →
+        takes t l ≡ K.Front taken left → Leads rest (I.Token taken ∷ values) (left ∷ ls) last → Leads (C.Token t ∷ rest) values (l ∷ ls) last
+    part : {n : N} {rest : List (Coming T N)} {values last : List (Item L V)} {ls : List L} (m : Made T N L carrier n) (i : ℕ) →
+        IsAt m i (made n) → Leads (map coming m.symbols ++ C.Over n i ∷ rest) values ls last → Leads (C.Part n ∷ rest) values ls last
+    made_of : {n : N} {i : ℕ} {rest : List (Coming T N)} {values last : List (Item L V)} {ls : List L} (value : V) (below : List (Item L V)) →
+        MakesBy carrier held n (made n) i values value below → Leads rest (I.Part value ∷ below) ls last → Leads (C.Over n i ∷ rest) values ls last
+
+  -- this lexeme and others lead on
+  pub record CanTake (to_come : List (Coming T N)) (values : List (Item L V)) (l : L) : Type 0 where
+    pub others : List L
+    pub last : List (Item L V)
+    pub leads : Leads to_come values (l ∷ others) last
+
+  -- with some values
+  pub record CanEnter (to_come : List (Coming T N)) (l : L) : Type 0 where
+    pub values : List (Item L V)
+    pub can : CanTake to_come values l
+
+  -- with these values, nothing more leads to the value of a part
+  pub record CanFinish (to_come : List (Coming T N)) (values : List (Item L V)) : Type 0 where
+    pub value : V
+    pub leads : Leads to_come values [] (I.Part value ∷ [])
+
+  -- what is to come was reached, and where a lexeme and others led, what is left of it and the others lead from here
+  pub record Follows (productions : N → List (List (Symbol T N))) (from : List (Coming T N)) (values : List (Item L V)) (l : L) (to : List (Coming T N)) (new : List (Item L V)) (left : List L) : Type 0 where
+    pub reached : IsReached productions (symbols to)
+    pub leads : (ls : List L) (last : List (Item L V)) → Leads from values (l ∷ ls) last → Leads to new (left ++ ls) last
+
+-- what is left of a lexeme, if anything
+abbrev pub left_over : {L : Type 0} → Option L → List L
+left_over None = []
+left_over (Some l) = l ∷ []
+
+-- a token takes a lexeme or its front, which is the newest value then
+abbrev pub TakesToken : {L V : Type 0} → Take L → L → List (Item L V) → Option L → List (Item L V) → Type 0
+TakesToken K.No l values left new = ⊥
+TakesToken K.Whole l values left new = (left ≡ None) × (new ≡ I.Token l ∷ values)
+TakesToken (K.Front front rest) l values left new = (left ≡ Some rest) × (new ≡ I.Token front ∷ values)
