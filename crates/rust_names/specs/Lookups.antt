@@ -1,6 +1,6 @@
 -- What a name or a path means, as a declared type, a function, a constructor or a variant; or the place
 -- of the name that is declared nowhere (LANGUAGE.md, "Names").
-use Rattle.std.specs.Prelude.{ℕ, Bool, true, false, ◌||◌, if◌then◌else◌, List, map, slice_get, Option, Some, None, option_map, Result, Ok, Err}
+use Rattle.std.specs.Prelude.{ℕ, Bool, ◌||◌, if◌then◌else◌, List, map, slice_get, Option, Some, None, option_map, Result, Ok, Err}
 use Rattle.std.specs.Option.{option_and_then}
 use Rattle.aen_base.specs.declared.span.Span.{Span}
 use Rattle.aen_base.specs.declared.ids.TypeId.{TypeId}

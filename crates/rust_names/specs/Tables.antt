@@ -1,5 +1,5 @@
 -- What a program declares, as uses see it, gathered item by item (LANGUAGE.md, "Names").
-use Rattle.std.specs.Prelude.{ℕ, ◌+◌, Bool, true, false, List, [], ◌∷◌, ◌++◌, length, map}
+use Rattle.std.specs.Prelude.{ℕ, ◌+◌, true, false, List, [], ◌∷◌, ◌++◌, length, map}
 use Rattle.aen_base.specs.declared.ids.TypeId.{TypeId}
 use Rattle.rust_ast.specs.declared.ident.Ident.{Ident}
 use Rattle.rust_ast.specs.declared.program.Item.{Item}
@@ -12,8 +12,6 @@ use Rattle.rust_ast.specs.declared.program.Enum as enums
 use Rattle.rust_ast.specs.declared.program.Variant.{Variant}
 use Rattle.rust_names.specs.declared.gathering.Gathered.{Gathered}
 use Rattle.rust_names.specs.declared.tables.Tables.{Tables}
-use Rattle.rust_names.specs.declared.tables.TypeNames.{TypeNames}
-use Rattle.rust_names.specs.declared.tables.ValueNames.{ValueNames}
 use Rattle.rust_names.specs.declared.tables.Meaning.{Meaning}
 use Rattle.rust_names.specs.declared.tables.Meaning.TheVariants as means
 

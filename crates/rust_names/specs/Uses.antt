@@ -1,6 +1,6 @@
 -- Expressions, statements and blocks with names resolved: uses are looked up, and variables and loops
 -- numbered, in source order (LANGUAGE.md, "Names").
-use Rattle.std.specs.Prelude.{ℕ, Bool, true, false, List, length, Result, Ok, Err}
+use Rattle.std.specs.Prelude.{ℕ, Bool, true, false, List, length, Result, Ok}
 use Rattle.aen_base.specs.declared.span.Span.{Span}
 use Rattle.rust_ast.specs.Source as s
 use Rattle.rust_ast.specs.Patterns as p

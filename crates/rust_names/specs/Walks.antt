@@ -1,5 +1,5 @@
 -- Going through a list: a step for each item, from left to right, until one fails.
-use Rattle.std.specs.Prelude.{List, [], ◌∷◌, Result, Ok, Err}
+use Rattle.std.specs.Prelude.{List, [], ◌∷◌, Result, Ok}
 use Rattle.aen_base.specs.declared.span.Span.{Span}
 use Rattle.rust_names.specs.Lookups.{and_then}
 
