@@ -1,0 +1,144 @@
+-- A program with names resolved, or the first fault of its names (LANGUAGE.md, "Names", "Limits").
+use Rattle.std.specs.Prelude.{ℕ, suc, Bool, true, false, ◌||◌, if◌then◌else◌, List, [], ◌∷◌, length, map, Some, None, Result, Ok, Err, nat_lt, decimal}
+use Rattle.aen_base.specs.declared.span.Span.{Span}
+use Rattle.aen_base.specs.declared.limits.Which.TheVariants.{Functions, Variables}
+use Rattle.rust_ast.specs.SourceTypes as s
+use Rattle.rust_ast.specs.Written as w
+use Rattle.rust_ast.specs.declared.ident.Ident.{Ident}
+use Rattle.rust_ast.specs.declared.program.Program.{Program}
+use Rattle.rust_ast.specs.declared.program.Param.{Param}
+use Rattle.rust_ast.specs.declared.program.Variant as variants
+use Rattle.rust_ast.specs.declared.program.Struct as structs
+use Rattle.rust_ast.specs.declared.program.Enum as enums
+use Rattle.rust_ast.specs.declared.program.Function as functions
+use Rattle.rust_ast.specs.declared.program.Item.{Item}
+use Rattle.rust_ast.specs.declared.program.Item.TheVariants.{Function, Struct, Enum, UseMem}
+use Rattle.rust_ast.specs.declared.program.Fields.{Fields}
+use Rattle.rust_ast.specs.declared.program.Fields.TheVariants as fields
+use Rattle.rust_ast.specs.declared.resolution.Resolved.{Resolved}
+use Rattle.rust_ast.specs.declared.resolution.Declared.{Declared}
+use Rattle.rust_ast.specs.declared.resolution.Function as resolved
+use Rattle.rust_ast.specs.declared.resolution.Variable.{Variable}
+use Rattle.rust_names.specs.declared.fault.NameFault.{NameFault}
+use Rattle.rust_names.specs.declared.fault.NameFault.TheVariants.{Unknown, Twice, Limit}
+use Rattle.rust_names.specs.declared.tables.Tables.{Tables}
+use Rattle.rust_names.specs.declared.tables.Generics.{Generics}
+use Rattle.rust_names.specs.Lookups.{and_then}
+use Rattle.rust_names.specs.Tables.{names_of, tables_of}
+use Rattle.rust_names.specs.Scopes.{State, numbered}
+use Rattle.rust_names.specs.TypeUses.{read_type, read_maybe_type}
+use Rattle.rust_names.specs.Twice.{Pair, twice}
+use Rattle.rust_names.specs.Uses.{read_block}
+
+-- types from left to right
+abbrev pub read_each : Tables → Generics → List s.Written → Result (List w.Written) Span
+read_each t g [] = Ok []
+read_each t g (x ∷ xs) = and_then (read_type t g x) (λ y. and_then (read_each t g xs) (λ ys. Ok (y ∷ ys)))
+
+abbrev pub only_parameters : List Ident → Generics
+only_parameters xs = record { lifetimes = []; type_params = names_of xs }
+
+-- ---- declared types
+
+-- fields without names have their places as names, beginning with this one
+abbrev pub read_placed : Tables → Generics → ℕ → List s.Written → Result (List (List ℕ × w.Written)) Span
+read_placed t g k [] = Ok []
+read_placed t g k (x ∷ xs) = and_then (read_type t g x) (λ y. and_then (read_placed t g (suc k) xs) (λ ys. Ok ((decimal k, y) ∷ ys)))
+
+abbrev pub read_named : Tables → Generics → List (Span × List ℕ × s.Written) → Result (List (List ℕ × w.Written)) Span
+read_named t g [] = Ok []
+read_named t g (x ∷ xs) = and_then (read_type t g x.2) (λ y. and_then (read_named t g xs) (λ ys. Ok ((x.1, y) ∷ ys)))
+
+abbrev pub read_struct_fields : Tables → Generics → Fields → Result (List (List ℕ × w.Written)) Span
+read_struct_fields t g (fields.Named xs) = read_named t g xs
+read_struct_fields t g (fields.Placed xs) = read_placed t g 0 xs
+
+abbrev pub read_variants : Tables → Generics → List variants.Variant → Result (List (List ℕ × List (List ℕ × w.Written))) Span
+read_variants t g [] = Ok []
+read_variants t g (v ∷ vs) =
+    and_then (read_placed t g 0 v.fields) (λ fs. and_then (read_variants t g vs) (λ ys. Ok ((v.name.name, fs) ∷ ys)))
+
+unfoldable pub read_struct : Tables → structs.Struct → Result Declared Span
+read_struct t x =
+    and_then (read_struct_fields t (only_parameters x.params) x.fields) (λ fs.
+    Ok (record { name = x.name.name; span = x.name.span; params = names_of x.params; is_struct = true; variants = (x.name.name, fs) ∷ [] }))
+
+unfoldable pub read_enum : Tables → enums.Enum → Result Declared Span
+read_enum t x =
+    and_then (read_variants t (only_parameters x.params) x.variants) (λ vs.
+    Ok (record { name = x.name.name; span = x.name.span; params = names_of x.params; is_struct = false; variants = vs }))
+
+-- ---- functions
+
+abbrev pub param_types : List Param → List s.Written
+param_types xs = map (λ (x : Param). x.ty) xs
+
+-- the parameters are the first variables
+abbrev pub param_variable : Param → Variable
+param_variable x = record { name = x.name.name; span = x.name.span; mutable = x.mutable; late = false }
+
+abbrev pub beginning : List Variable → State
+beginning vs = record { scope = numbered 0 vs; variables = vs; loops = 0 }
+
+abbrev pub function_generics : functions.Function → Generics
+function_generics f = record { lifetimes = names_of f.lifetimes; type_params = names_of f.type_params }
+
+-- the types of the parameters and of the result, then the body
+unfoldable pub read_function : Tables → functions.Function → Result resolved.Function Span
+read_function t f =
+    and_then (read_each t (function_generics f) (param_types f.params)) (λ xs.
+    and_then (read_maybe_type t (function_generics f) (s.maybewritten f.result)) (λ y.
+    and_then (read_block t (function_generics f) f.body (beginning (map param_variable f.params))) (λ b.
+    Ok (record {
+      name = f.name.name;
+      span = f.name.span;
+      lifetimes = names_of f.lifetimes;
+      type_params = names_of f.type_params;
+      params = xs;
+      result = w.maybewritten_option y;
+      variables = b.1.variables;
+      body = b.0;
+    }))))
+
+-- ---- programs
+
+abbrev pub with_type : Declared → Resolved → Resolved
+with_type d x = record { types = d ∷ x.types; functions = x.functions }
+
+abbrev pub with_function : resolved.Function → Resolved → Resolved
+with_function f x = record { types = x.types; functions = f ∷ x.functions }
+
+-- the items in source order
+abbrev pub read_items : Tables → List Item → Result Resolved Span
+read_items t [] = Ok (record { types = []; functions = [] })
+read_items t (Function f ∷ is) = and_then (read_function t f) (λ x. and_then (read_items t is) (λ y. Ok (with_function x y)))
+read_items t (Struct s ∷ is) = and_then (read_struct t s) (λ x. and_then (read_items t is) (λ y. Ok (with_type x y)))
+read_items t (Enum e ∷ is) = and_then (read_enum t e) (λ x. and_then (read_items t is) (λ y. Ok (with_type x y)))
+read_items t (UseMem ∷ is) = read_items t is
+
+abbrev pub count_functions : List Item → ℕ
+count_functions [] = 0
+count_functions (Function f ∷ is) = suc (count_functions is)
+count_functions (Struct s ∷ is) = count_functions is
+count_functions (Enum e ∷ is) = count_functions is
+count_functions (UseMem ∷ is) = count_functions is
+
+-- some function has more than 1,000 variables
+abbrev pub has_many : List resolved.Function → Bool
+has_many [] = false
+has_many (f ∷ fs) = nat_lt 1000 (length f.variables) || has_many fs
+
+abbrev pub variables_within : Result Resolved Span → Result Resolved NameFault
+variables_within (Err p) = Err (Unknown p)
+variables_within (Ok x) = if has_many x.functions then Err (Limit Variables 1001) else Ok x
+
+abbrev pub unless_twice : Pair → Result Resolved NameFault → Result Resolved NameFault
+unless_twice None o = o
+unless_twice (Some x) o = Err (Twice x.0 x.1)
+
+-- the limit of functions comes first, then what is declared twice, then what is declared nowhere, then
+-- the limit of variables
+unfoldable pub resolution : Program → Result Resolved NameFault
+resolution prog =
+    if nat_lt 4096 (count_functions prog.items) then Err (Limit Functions 4097)
+    else unless_twice (twice prog) (variables_within (read_items (tables_of prog) prog.items))
