@@ -1,0 +1,194 @@
+-- Each part derives something. Written by tools/grammar.py.
+use Rattle.std.specs.Prelude.{◌≡◌, refl, [], ◌∷◌, map, None}
+use Rattle.source_grammar.specs.declared.part.Part.{Part}
+use Rattle.source_grammar.specs.declared.part.Part.TheVariants as N
+use Rattle.table_reader.specs.declared.symbol.Symbol.{Symbol}
+use Rattle.table_reader.specs.declared.symbol.Symbol.TheVariants as S
+use Rattle.source_grammar.specs.declared.part.Context.{Context}
+use Rattle.source_grammar.specs.declared.part.Context.TheVariants as At
+use Rattle.source_grammar.specs.declared.part.Level.{Level}
+use Rattle.source_grammar.specs.declared.part.Level.TheVariants as L
+use Rattle.source_grammar.specs.declared.part.Listed.{Listed}
+use Rattle.source_grammar.specs.declared.part.Listed.TheVariants as Of
+use Rattle.table_reader.specs.Steps.{fault_from}
+use Rattle.source_grammar.specs.Productions.{productions, rank}
+use Rattle.source_grammar.specs.Lexemes.{takes, weight, sample}
+use Rattle.source_grammar.specs.Shortest.{shortest}
+
+pub ends : (n : Part) → fault_from takes productions rank weight (S.Part n ∷ []) (map sample (shortest n)) ≡ None
+ends N.Program = refl
+ends N.AfterHash = refl
+ends N.Items = refl
+ends N.Attribute = refl
+ends N.Attributed = refl
+ends N.Item = refl
+ends N.Declaration = refl
+ends N.Generics = refl
+ends N.Lifetimes = refl
+ends N.MoreLifetimes = refl
+ends N.TypeParameters = refl
+ends N.Parameter = refl
+ends N.Result = refl
+ends N.StructBody = refl
+ends N.Field = refl
+ends N.TupleField = refl
+ends N.Variant = refl
+ends N.VariantBody = refl
+ends (N.List Of.Names) = refl
+ends (N.List Of.TypeNames) = refl
+ends (N.List Of.Parameters) = refl
+ends (N.List Of.Fields) = refl
+ends (N.List Of.TupleFields) = refl
+ends (N.List Of.Variants) = refl
+ends (N.List Of.TypesInAngles) = refl
+ends (N.List Of.Types) = refl
+ends (N.List Of.Arguments) = refl
+ends (N.List Of.Initials) = refl
+ends (N.List Of.Patterns) = refl
+ends (N.List Of.FieldPatterns) = refl
+ends (N.ListRest Of.Names) = refl
+ends (N.ListRest Of.TypeNames) = refl
+ends (N.ListRest Of.Parameters) = refl
+ends (N.ListRest Of.Fields) = refl
+ends (N.ListRest Of.TupleFields) = refl
+ends (N.ListRest Of.Variants) = refl
+ends (N.ListRest Of.TypesInAngles) = refl
+ends (N.ListRest Of.Types) = refl
+ends (N.ListRest Of.Arguments) = refl
+ends (N.ListRest Of.Initials) = refl
+ends (N.ListRest Of.Patterns) = refl
+ends (N.ListRest Of.FieldPatterns) = refl
+ends N.Type = refl
+ends N.BorrowLifetime = refl
+ends N.BorrowMut = refl
+ends N.TypeArguments = refl
+ends N.AfterTypeOpen = refl
+ends N.AfterType = refl
+ends N.Block = refl
+ends N.Statements = refl
+ends N.MoreStatements = refl
+ends N.AfterBlockLike = refl
+ends N.AfterExpression = refl
+ends N.LetType = refl
+ends N.LetValue = refl
+ends N.BlockLike = refl
+ends N.AfterWhile = refl
+ends N.If = refl
+ends N.AfterIf = refl
+ends N.Else = refl
+ends N.AfterElse = refl
+ends N.Arms = refl
+ends N.ArmBody = refl
+ends N.AfterBlockArm = refl
+ends N.AfterArm = refl
+ends (N.Expression At.Free) = refl
+ends (N.Expression At.Condition) = refl
+ends N.LeadingExpression = refl
+ends N.Operand = refl
+ends (N.MoreAssign At.Free) = refl
+ends (N.MoreAssign At.Condition) = refl
+ends (N.Level L.Or At.Free) = refl
+ends (N.Level L.Or At.Condition) = refl
+ends (N.Level L.And At.Free) = refl
+ends (N.Level L.And At.Condition) = refl
+ends (N.Level L.Compare At.Free) = refl
+ends (N.Level L.Compare At.Condition) = refl
+ends (N.Level L.BitOr At.Free) = refl
+ends (N.Level L.BitOr At.Condition) = refl
+ends (N.Level L.Xor At.Free) = refl
+ends (N.Level L.Xor At.Condition) = refl
+ends (N.Level L.BitAnd At.Free) = refl
+ends (N.Level L.BitAnd At.Condition) = refl
+ends (N.Level L.Shift At.Free) = refl
+ends (N.Level L.Shift At.Condition) = refl
+ends (N.Level L.Sum At.Free) = refl
+ends (N.Level L.Sum At.Condition) = refl
+ends (N.Level L.Product At.Free) = refl
+ends (N.Level L.Product At.Condition) = refl
+ends (N.LeadingLevel L.Or) = refl
+ends (N.LeadingLevel L.And) = refl
+ends (N.LeadingLevel L.Compare) = refl
+ends (N.LeadingLevel L.BitOr) = refl
+ends (N.LeadingLevel L.Xor) = refl
+ends (N.LeadingLevel L.BitAnd) = refl
+ends (N.LeadingLevel L.Shift) = refl
+ends (N.LeadingLevel L.Sum) = refl
+ends (N.LeadingLevel L.Product) = refl
+ends (N.More L.Or At.Free) = refl
+ends (N.More L.Or At.Condition) = refl
+ends (N.More L.And At.Free) = refl
+ends (N.More L.And At.Condition) = refl
+ends (N.More L.Compare At.Free) = refl
+ends (N.More L.Compare At.Condition) = refl
+ends (N.More L.BitOr At.Free) = refl
+ends (N.More L.BitOr At.Condition) = refl
+ends (N.More L.Xor At.Free) = refl
+ends (N.More L.Xor At.Condition) = refl
+ends (N.More L.BitAnd At.Free) = refl
+ends (N.More L.BitAnd At.Condition) = refl
+ends (N.More L.Shift At.Free) = refl
+ends (N.More L.Shift At.Condition) = refl
+ends (N.More L.Sum At.Free) = refl
+ends (N.More L.Sum At.Condition) = refl
+ends (N.More L.Product At.Free) = refl
+ends (N.More L.Product At.Condition) = refl
+ends (N.Cast At.Free) = refl
+ends (N.Cast At.Condition) = refl
+ends N.LeadingCast = refl
+ends N.MoreCasts = refl
+ends (N.Unary At.Free) = refl
+ends (N.Unary At.Condition) = refl
+ends N.LeadingUnary = refl
+ends (N.Borrowed At.Free) = refl
+ends (N.Borrowed At.Condition) = refl
+ends N.Postfix = refl
+ends N.FieldName = refl
+ends (N.Core At.Free) = refl
+ends (N.Core At.Condition) = refl
+ends N.AfterOpen = refl
+ends N.AfterFirst = refl
+ends N.Initial = refl
+ends N.InitialValue = refl
+ends (N.AfterName At.Free) = refl
+ends (N.AfterName At.Condition) = refl
+ends (N.AfterPanic At.Free) = refl
+ends (N.AfterPanic At.Condition) = refl
+ends (N.AfterAssert At.Free) = refl
+ends (N.AfterAssert At.Condition) = refl
+ends (N.AfterMem At.Free) = refl
+ends (N.AfterMem At.Condition) = refl
+ends (N.AfterStd At.Free) = refl
+ends (N.AfterStd At.Condition) = refl
+ends (N.NameMore At.Free) = refl
+ends (N.NameMore At.Condition) = refl
+ends (N.Applied At.Free) = refl
+ends (N.Applied At.Condition) = refl
+ends (N.AfterColons At.Free) = refl
+ends (N.AfterColons At.Condition) = refl
+ends (N.AfterMemColons At.Free) = refl
+ends (N.AfterMemColons At.Condition) = refl
+ends (N.AfterStdColons At.Free) = refl
+ends (N.AfterStdColons At.Condition) = refl
+ends N.AfterStdMem = refl
+ends N.AfterStdMemColons = refl
+ends (N.AfterTurbo At.Free) = refl
+ends (N.AfterTurbo At.Condition) = refl
+ends N.AfterPath = refl
+ends N.Message = refl
+ends N.AssertEnd = refl
+ends N.AfterAssertComma = refl
+ends N.AfterMessage = refl
+ends N.Pattern = refl
+ends N.AfterPatternOpen = refl
+ends N.AfterPattern = refl
+ends N.FieldPattern = refl
+ends N.FieldPatternValue = refl
+ends N.PatternParts = refl
+ends N.GivenParts = refl
+ends N.AfterPatternName = refl
+ends N.AfterPatternMem = refl
+ends N.AfterPatternStd = refl
+ends N.AfterPatternColons = refl
+ends N.AfterPatternMemColons = refl
+ends N.AfterPatternStdColons = refl
+ends N.AfterPatternStdMem = refl

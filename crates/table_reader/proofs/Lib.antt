@@ -1,0 +1,4 @@
+pub mod Sound
+pub mod Theorem
+pub mod Stepping
+pub mod Pieces

@@ -1,0 +1,4 @@
+pub mod Derivations
+pub mod Steps
+pub mod Stacks
+pub mod Conditions
