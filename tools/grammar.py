@@ -6,10 +6,10 @@ and the productions. Written into the crate that it names are
 
     src/class.rt, src/terminal.rt, src/part.rt    the symbols as enums
     src/table.rt, src/table/*.rt                  the productions as code
-    src/classes.rt                                the classes of each token as code
-    specs/Classes.antt, specs/Productions.antt    both as definitions
-    specs/Follow.antt, Shortest.antt             what may follow a part; tokens that a part derives
-    specs/PartsFit.antt, Ends.antt                  that the table fits, a line for each part
+    src/classes.rt, src/spellings.rt               the classes of each token, the spelling of each class
+    specs/Classes.antt, specs/Productions.antt    all this as definitions
+    specs/Follow.antt, specs/Shortest.antt        what may follow a part; tokens that a part derives
+    specs/PartsFit.antt, specs/Ends.antt          that the table fits, a line for each part
 
 Before that the table is checked, and each conflict is told: a part that begins itself, two productions of a part that begin
 alike, a part that may be empty and begins like what follows it, one that derives nothing, one that is never reached.
@@ -46,6 +46,12 @@ class Description:
             if spelling:
                 self.spelled[spelling[0][1:-1]] = name
             self.class_docs[name] = doc.strip() or f"`{spelling[0][1:-1]}`"
+
+    def words(self):
+        return [w for w in self.spelled if w[0].isalpha()]
+
+    def marks(self):
+        return [w for w in self.spelled if not w[0].isalpha()]
 
     def read_sets(self, text):
         self.sets, self.set_docs = {}, {}
@@ -398,6 +404,28 @@ pub(crate) fn classes_of(terminal: Terminal) -> &'static [Class]
 {arms}    }}
 }}
 """
+        arms = "".join(f'        Class::{c} => "{w}",\n' for w, c in d.spelled.items())
+        listed = lambda name, words: f"pub(crate) const {name}: &[Class] = &[{', '.join('Class::' + d.spelled[w] for w in words)}];\n"
+        yield "src/spellings.rt", f"""//! How words and marks are spelled. {NOTE}
+
+ghost use Rattle.std.specs.Prelude.{{◌≡◌}};
+ghost use Rattle.{d.crate}.specs.Classes as grammar;
+
+use crate::class::Class;
+
+/// The classes of words, and of identifiers with a class of their own.
+{listed("NAMES", d.words())}
+/// The classes of marks.
+{listed("MARKS", d.marks())}
+/// How the lexemes of a class are spelled, where it has one spelling; else nothing.
+pub fn spelling(class: Class) -> &'static str
+    ensures {{ result.now ≡ grammar.spelling class }}
+{{
+    match class {{
+{arms}        _ => "",
+    }}
+}}
+"""
 
 
 # --------------------------------------------------------------------------------------------------------- definitions
@@ -410,17 +438,15 @@ class Definitions:
             "Terminal": f"use Rattle.{d.crate}.specs.declared.terminal.Terminal.{{Terminal}}\n"
                         f"use Rattle.{d.crate}.specs.declared.terminal.Terminal.TheVariants as T\n",
             "Class": f"use Rattle.{d.crate}.specs.declared.class.Class.{{Class}}\nuse Rattle.{d.crate}.specs.declared.class.Class.TheVariants as C\n",
-            "Symbol": "use Rattle.table_reader.specs.declared.symbol.Symbol.{Symbol}\n"
-                      "use Rattle.table_reader.specs.declared.symbol.Symbol.TheVariants as S\n",
+            "of Symbol": "use Rattle.table_reader.specs.declared.symbol.Symbol.{Symbol}\n",
+            "Symbol": "use Rattle.table_reader.specs.declared.symbol.Symbol.TheVariants as S\n",
         }
         for k, (alias, _, _) in d.parameters.items():
-            self.use[k] = f"use Rattle.{d.crate}.specs.declared.part.{k}.{{{k}}}\nuse Rattle.{d.crate}.specs.declared.part.{k}.TheVariants as {alias}\n"
+            self.use[k] = f"use Rattle.{d.crate}.specs.declared.part.{k}.TheVariants as {alias}\n"
+            self.use["of " + k] = f"use Rattle.{d.crate}.specs.declared.part.{k}.{{{k}}}\n"
 
     def imports(self, *names, prelude="◌≡◌, refl, Bool, true, List, [], ◌∷◌"):
         return f"use Rattle.std.specs.Prelude.{{{prelude}}}\n" + "".join(self.use[n] for n in names)
-
-    def variants(self):
-        return [n for n in self.d.parameters]
 
     def value(self, kind, word):
         return word if word in self.d.variables else f"{self.d.parameters[kind][0]}.{word}"
@@ -477,7 +503,7 @@ class Definitions:
         d = self.d
         text = f"""-- The grammar: what each part may be replaced by ({d.title}). Where two ways begin alike, a part of its own
 -- stands for what comes after that beginning. {NOTE}
-{self.imports("Symbol", "Terminal", "Part", *self.variants(), prelude="ℕ, List, [], ◌∷◌")}
+{self.imports("of Symbol", "Symbol", "Terminal", "Part", *[w + k for k in d.parameters for w in ("of ", "")], prelude="ℕ, List, [], ◌∷◌")}
 -- a token, and what comes after it
 infixr 5 ◌▸◌
 abbrev pub ◌▸◌ : Terminal → List (Symbol Terminal Part) → List (Symbol Terminal Part)
@@ -509,8 +535,8 @@ n ▹ rest = S.Part n ∷ rest
 
     def classes(self):
         d = self.d
-        text = f"""-- The classes of each token. {NOTE}
-{self.imports("Class", "Terminal", prelude="List, [], ◌∷◌")}
+        text = f"""-- The classes of each token, and how they are spelled. {NOTE}
+{self.imports("Class", "Terminal", prelude="ℕ, List, [], ◌∷◌, codes")}
 abbrev pub classes : Terminal → List Class
 """
         for t in d.terminals:
@@ -519,12 +545,17 @@ abbrev pub classes : Terminal → List Class
         for t in d.terminals:
             first = d.of_token[t][-1 if t == "TypesEnd" else 0]
             text += f"sample_class T.{t} = C.{first}\n"
+        text += "\n-- how lexemes of a class are spelled, where it has one spelling\nabbrev pub spelling : Class → List ℕ\n"
+        text += "".join(f'spelling C.{c} = codes "{w}"\n' for w, c in d.spelled.items()) + "spelling c = []\n"
+        listed = lambda words: "".join(f"C.{d.spelled[w]} ∷ " for w in words) + "[]\n"
+        text += "\n-- the classes of words, and of identifiers with a class of their own\nabbrev pub names : List Class\nnames = " + listed(d.words())
+        text += "\n-- the classes of marks\nabbrev pub marks : List Class\nmarks = " + listed(d.marks())
         yield "specs/Classes.antt", text
 
     def follow(self):
         d, names = self.d, {}
         text = f"-- The tokens that may come after a part. {NOTE}\n"
-        text += self.imports("Terminal", "Part", *self.variants(), prelude="List, [], ◌∷◌") + "\n"
+        text += self.imports("Terminal", "Part", *d.parameters, prelude="List, [], ◌∷◌") + "\n"
         lines = ""
         for n in d.table:
             tokens = tuple(t for t in d.terminals if t in self.c.follow[n])
@@ -534,7 +565,7 @@ abbrev pub classes : Terminal → List Class
             lines += f"follow {self.ground(n)} = {names[tokens]}\n"
         yield "specs/Follow.antt", text + "abbrev pub follow : Part → List Terminal\n" + lines
         text = f"-- Tokens that a part derives. {NOTE}\n"
-        text += self.imports("Terminal", "Part", *self.variants(), prelude="List, [], ◌∷◌")
+        text += self.imports("Terminal", "Part", *d.parameters, prelude="List, [], ◌∷◌")
         text += "\nabbrev pub shortest : Part → List Terminal\n"
         for n in d.table:
             text += f"shortest {self.ground(n)} = {self.list_of(self.c.shortest[n])}\n"
@@ -545,7 +576,7 @@ abbrev pub classes : Terminal → List Class
         refl = lambda f: "".join(f"{f} {self.ground(n)} = refl\n" for n in d.table)
         crate = f"Rattle.{d.crate}"
         yield "specs/PartsFit.antt", f"""-- What is asked of each part holds. {NOTE}
-{self.imports("Part", *self.variants(), prelude="◌≡◌, refl, true")}use Rattle.table_reader.specs.Conditions.{{fits_part}}
+{self.imports("Part", *d.parameters, prelude="◌≡◌, refl, true")}use Rattle.table_reader.specs.Conditions.{{fits_part}}
 use {crate}.specs.Productions.{{productions, rank}}
 use {crate}.specs.Follow.{{follow}}
 use {crate}.specs.Apart.{{apart, same}}
@@ -553,7 +584,7 @@ use {crate}.specs.Apart.{{apart, same}}
 pub table : (n : Part) → fits_part productions rank follow apart same n ≡ true
 {refl("table")}"""
         yield "specs/Ends.antt", f"""-- Each part derives something. {NOTE}
-{self.imports("Part", "Symbol", *self.variants(), prelude="◌≡◌, refl, [], ◌∷◌, map, None")}use Rattle.table_reader.specs.Steps.{{fault_from}}
+{self.imports("Part", "Symbol", *d.parameters, prelude="◌≡◌, refl, [], ◌∷◌, map, None")}use Rattle.table_reader.specs.Steps.{{fault_from}}
 use {crate}.specs.Productions.{{productions, rank}}
 use {crate}.specs.Lexemes.{{takes, weight, sample}}
 use {crate}.specs.Shortest.{{shortest}}

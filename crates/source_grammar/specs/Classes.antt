@@ -1,5 +1,5 @@
--- The classes of each token. Written by tools/grammar.py.
-use Rattle.std.specs.Prelude.{List, [], ◌∷◌}
+-- The classes of each token, and how they are spelled. Written by tools/grammar.py.
+use Rattle.std.specs.Prelude.{ℕ, List, [], ◌∷◌, codes}
 use Rattle.source_grammar.specs.declared.class.Class.{Class}
 use Rattle.source_grammar.specs.declared.class.Class.TheVariants as C
 use Rattle.source_grammar.specs.declared.terminal.Terminal.{Terminal}
@@ -149,3 +149,90 @@ sample_class T.ShiftOp = C.Shl
 sample_class T.SumOp = C.Plus
 sample_class T.ProductOp = C.Star
 sample_class T.TypesEnd = C.Greater
+
+-- how lexemes of a class are spelled, where it has one spelling
+abbrev pub spelling : Class → List ℕ
+spelling C.As = codes "as"
+spelling C.Break = codes "break"
+spelling C.Continue = codes "continue"
+spelling C.Else = codes "else"
+spelling C.Enum = codes "enum"
+spelling C.False = codes "false"
+spelling C.Fn = codes "fn"
+spelling C.If = codes "if"
+spelling C.Let = codes "let"
+spelling C.Loop = codes "loop"
+spelling C.Match = codes "match"
+spelling C.Mut = codes "mut"
+spelling C.Pub = codes "pub"
+spelling C.Return = codes "return"
+spelling C.Struct = codes "struct"
+spelling C.True = codes "true"
+spelling C.Use = codes "use"
+spelling C.While = codes "while"
+spelling C.Bool = codes "bool"
+spelling C.Box = codes "Box"
+spelling C.Allow = codes "allow"
+spelling C.Derive = codes "derive"
+spelling C.Std = codes "std"
+spelling C.Mem = codes "mem"
+spelling C.New = codes "new"
+spelling C.Replace = codes "replace"
+spelling C.Swap = codes "swap"
+spelling C.Panic = codes "panic"
+spelling C.Unreachable = codes "unreachable"
+spelling C.Assert = codes "assert"
+spelling C.ShlEquals = codes "<<="
+spelling C.ShrEquals = codes ">>="
+spelling C.Colons = codes "::"
+spelling C.Arrow = codes "->"
+spelling C.Gives = codes "=>"
+spelling C.EqualsEquals = codes "=="
+spelling C.NotEquals = codes "!="
+spelling C.LessEquals = codes "<="
+spelling C.GreaterEquals = codes ">="
+spelling C.AndAnd = codes "&&"
+spelling C.BarBar = codes "||"
+spelling C.Shl = codes "<<"
+spelling C.Shr = codes ">>"
+spelling C.PlusEquals = codes "+="
+spelling C.MinusEquals = codes "-="
+spelling C.StarEquals = codes "*="
+spelling C.SlashEquals = codes "/="
+spelling C.PercentEquals = codes "%="
+spelling C.AndEquals = codes "&="
+spelling C.BarEquals = codes "|="
+spelling C.CaretEquals = codes "^="
+spelling C.Plus = codes "+"
+spelling C.Minus = codes "-"
+spelling C.Star = codes "*"
+spelling C.Slash = codes "/"
+spelling C.Percent = codes "%"
+spelling C.And = codes "&"
+spelling C.Bar = codes "|"
+spelling C.Caret = codes "^"
+spelling C.Not = codes "!"
+spelling C.Equals = codes "="
+spelling C.Less = codes "<"
+spelling C.Greater = codes ">"
+spelling C.OpenBracket = codes "("
+spelling C.CloseBracket = codes ")"
+spelling C.OpenBrace = codes "{"
+spelling C.CloseBrace = codes "}"
+spelling C.OpenSquare = codes "["
+spelling C.CloseSquare = codes "]"
+spelling C.Comma = codes ","
+spelling C.Semicolon = codes ";"
+spelling C.Colon = codes ":"
+spelling C.Dot = codes "."
+spelling C.Hash = codes "#"
+spelling C.Wild = codes "_"
+spelling c = []
+
+-- the classes of words, and of identifiers with a class of their own
+abbrev pub names : List Class
+names = C.As ∷ C.Break ∷ C.Continue ∷ C.Else ∷ C.Enum ∷ C.False ∷ C.Fn ∷ C.If ∷ C.Let ∷ C.Loop ∷ C.Match ∷ C.Mut ∷ C.Pub ∷ C.Return ∷ C.Struct ∷ C.True ∷ C.Use ∷ C.While ∷ C.Bool ∷ C.Box ∷ C.Allow ∷ C.Derive ∷ C.Std ∷ C.Mem ∷ C.New ∷ C.Replace ∷ C.Swap ∷ C.Panic ∷ C.Unreachable ∷ C.Assert ∷ []
+
+-- the classes of marks
+abbrev pub marks : List Class
+marks = C.ShlEquals ∷ C.ShrEquals ∷ C.Colons ∷ C.Arrow ∷ C.Gives ∷ C.EqualsEquals ∷ C.NotEquals ∷ C.LessEquals ∷ C.GreaterEquals ∷ C.AndAnd ∷ C.BarBar ∷ C.Shl ∷ C.Shr ∷ C.PlusEquals ∷ C.MinusEquals ∷ C.StarEquals ∷ C.SlashEquals ∷ C.PercentEquals ∷ C.AndEquals ∷ C.BarEquals ∷ C.CaretEquals ∷ C.Plus ∷ C.Minus ∷ C.Star ∷ C.Slash ∷ C.Percent ∷ C.And ∷ C.Bar ∷ C.Caret ∷ C.Not ∷ C.Equals ∷ C.Less ∷ C.Greater ∷ C.OpenBracket ∷ C.CloseBracket ∷ C.OpenBrace ∷ C.CloseBrace ∷ C.OpenSquare ∷ C.CloseSquare ∷ C.Comma ∷ C.Semicolon ∷ C.Colon ∷ C.Dot ∷ C.Hash ∷ C.Wild ∷ []

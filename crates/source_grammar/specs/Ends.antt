@@ -2,13 +2,9 @@
 use Rattle.std.specs.Prelude.{◌≡◌, refl, [], ◌∷◌, map, None}
 use Rattle.source_grammar.specs.declared.part.Part.{Part}
 use Rattle.source_grammar.specs.declared.part.Part.TheVariants as N
-use Rattle.table_reader.specs.declared.symbol.Symbol.{Symbol}
 use Rattle.table_reader.specs.declared.symbol.Symbol.TheVariants as S
-use Rattle.source_grammar.specs.declared.part.Context.{Context}
 use Rattle.source_grammar.specs.declared.part.Context.TheVariants as At
-use Rattle.source_grammar.specs.declared.part.Level.{Level}
 use Rattle.source_grammar.specs.declared.part.Level.TheVariants as L
-use Rattle.source_grammar.specs.declared.part.Listed.{Listed}
 use Rattle.source_grammar.specs.declared.part.Listed.TheVariants as Of
 use Rattle.table_reader.specs.Steps.{fault_from}
 use Rattle.source_grammar.specs.Productions.{productions, rank}

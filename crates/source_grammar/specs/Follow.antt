@@ -4,11 +4,8 @@ use Rattle.source_grammar.specs.declared.terminal.Terminal.{Terminal}
 use Rattle.source_grammar.specs.declared.terminal.Terminal.TheVariants as T
 use Rattle.source_grammar.specs.declared.part.Part.{Part}
 use Rattle.source_grammar.specs.declared.part.Part.TheVariants as N
-use Rattle.source_grammar.specs.declared.part.Context.{Context}
 use Rattle.source_grammar.specs.declared.part.Context.TheVariants as At
-use Rattle.source_grammar.specs.declared.part.Level.{Level}
 use Rattle.source_grammar.specs.declared.part.Level.TheVariants as L
-use Rattle.source_grammar.specs.declared.part.Listed.{Listed}
 use Rattle.source_grammar.specs.declared.part.Listed.TheVariants as Of
 
 abbrev after_program : List Terminal

@@ -1,5 +1,5 @@
 -- How tokens of the grammar take lexemes (LANGUAGE.md, "Grammar").
-use Rattle.std.specs.Prelude.{ℕ, ◌+◌, nat_lt, Bool, if◌then◌else◌, List, [], ◌∷◌}
+use Rattle.std.specs.Prelude.{ℕ, ◌+◌, nat_lt, Bool, if◌then◌else◌}
 use Rattle.std.specs.List.{list_any}
 use denote.Enum.Bare.{sameb}
 use Rattle.aen_base.specs.declared.span.Span.{Span}

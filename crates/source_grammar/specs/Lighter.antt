@@ -1,5 +1,5 @@
 -- What is left of a lexeme is lighter.
-use Rattle.std.specs.Prelude.{◌≡◌, refl, ℕ, ◌<◌, Bool, true, false, if◌then◌else◌}
+use Rattle.std.specs.Prelude.{◌≡◌, ℕ, ◌<◌, Bool, true, false, if◌then◌else◌}
 use Rattle.std.proofs.Common.{arith, subst}
 use Rattle.aen_base.specs.declared.span.Span.{Span}
 use Rattle.table_reader.specs.declared.take.Take.{Take}
