@@ -77,9 +77,9 @@ def term(grammar, way, words):
     names, body = given.group(1).split(), given.group(2)
     assert len(names) == len(words), (way, words)
     shown = []
-    for n, (name, word) in enumerate(zip(names, words)):
+    for name, word in zip(names, words):
         if name == "_":
-            shown.append(f"u{n}")
+            shown.append("_")
             continue
         plain = name.rstrip("*")
         shown.append(plain)
@@ -105,7 +105,7 @@ def listed(grammar):
 
 
 def makes(grammar, ways):
-    out = ["\n-- in the order of `productions`; a name that begins with u stands for what has no meaning here",
+    out = ["\n-- in the order of `productions`",
            "abbrev pub makes : (n : Part) → Makes n (productions n)"]
     seen = set()
     for head, given in ways.items():

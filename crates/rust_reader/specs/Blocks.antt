@@ -64,23 +64,23 @@ abbrev pub loop_expression : Span → Lexeme → Spanned s.Block → s.Expr
 loop_expression whole word body = s.forever whole false body.value
 
 abbrev pub holds : Spanned s.Expr → Spanned s.Block → Option s.Expr → Conditional
-holds e yes no = record { condition = condition.Holds e.value; yes = yes.value; no = no }
+holds e body other = record { condition = condition.Holds e.value; body = body.value; otherwise = other }
 
 abbrev pub matches : Spanned p.Pat → Spanned s.Expr → Spanned s.Block → Option s.Expr → Conditional
-matches pat e yes no = record { condition = condition.Matches pat.value e.value; yes = yes.value; no = no }
+matches pat e body other = record { condition = condition.Matches pat.value e.value; body = body.value; otherwise = other }
 
 -- one of two, by a condition or by whether a pattern matches
 abbrev pub choice : Span → Condition → s.Block → s.Expr → s.Expr
-choice whole (condition.Holds e) yes no = s.branch whole e yes no
-choice whole (condition.Matches pat e) yes no = s.let_branch whole pat e (s.inner yes) no
+choice whole (condition.Holds e) body other = s.branch whole e body other
+choice whole (condition.Matches pat e) body other = s.let_branch whole pat e (s.inner body) other
 
 -- without `else` there is `{}`
 abbrev pub otherwise : Span → Option s.Expr → s.Expr
 otherwise whole None = s.inner (no_block whole)
-otherwise whole (Some no) = no
+otherwise whole (Some other) = other
 
 abbrev pub if_expression : Span → Lexeme → Spanned Conditional → s.Expr
-if_expression whole word c = choice whole c.value.condition c.value.yes (otherwise whole c.value.no)
+if_expression whole word c = choice whole c.value.condition c.value.body (otherwise whole c.value.otherwise)
 
 -- `while c B` is `loop { if c B else { break } }`, `while let p = e B` is `loop { match e { p => B, _ => break } }`
 abbrev pub leaving : Span → Condition → s.Expr
@@ -89,7 +89,7 @@ leaving whole (condition.Matches pat e) = s.leave whole s.no_maybeexpr
 
 abbrev pub while_expression : Span → Lexeme → Spanned Conditional → s.Expr
 while_expression whole word c =
-    s.forever whole true (only_value whole (choice whole c.value.condition c.value.yes (leaving whole c.value.condition)))
+    s.forever whole true (only_value whole (choice whole c.value.condition c.value.body (leaving whole c.value.condition)))
 
 -- `assert!(e)` is `if e {} else { panic!() }`
 abbrev pub asserted : Span → s.Expr → s.Expr

@@ -2,7 +2,7 @@
 use Rattle.std.specs.Prelude.{ℕ, Bool, false, List, [], ◌∷◌, Option, Some, None}
 use Rattle.aen_base.specs.declared.span.Span.{Span}
 use Rattle.source_grammar.specs.declared.lexeme.Lexeme.{Lexeme}
-use Rattle.rust_lex.specs.declared.token.Integer.{Integer}
+use Rattle.aen_base.specs.declared.int_ty.IntTy.{IntTy}
 use Rattle.rust_ast.specs.declared.ident.Ident.{Ident}
 use Rattle.rust_ast.specs.Patterns as suffixes
 use Rattle.rust_ast.specs.Source as s
@@ -24,8 +24,8 @@ returned_value whole word value = s.give whole (s.some_maybeexpr value.value)
 abbrev pub broken_value : Span → Lexeme → Spanned s.Expr → s.Expr
 broken_value whole word value = s.leave whole (s.some_maybeexpr value.value)
 
-abbrev pub number_of : Span → Integer → s.Expr
-number_of whole n = s.number whole false n.value (suffixes.suffix n.suffix)
+abbrev pub number_of : Span → ℕ × Option IntTy → s.Expr
+number_of whole n = s.number whole false n.0 (suffixes.suffix n.1)
 
 abbrev pub number_expression : Span → Lexeme → s.Expr
 number_expression whole number = number_of whole (number_in number.content)

@@ -40,49 +40,49 @@ listed Of.Initials v = v.value
 listed Of.Patterns v = v.value
 listed Of.FieldPatterns v = v.value
 
--- in the order of `productions`; a name that begins with u stands for what has no meaning here
+-- in the order of `productions`
 abbrev pub makes : (n : Part) → Makes n (productions n)
 makes N.Program =
     -- nothing
     (λ whole. [],
     -- '#' AfterHash
-    (λ whole u0 items. items.value,
+    (λ whole _ items. items.value,
     -- Item Items
     (items.first_item,
     tt)))
 makes N.AfterHash =
     -- '!' '[' 'allow' '(' List(Names) ']' Program
-    (λ whole u0 u1 u2 u3 u4 u5 items. items.value,
+    (λ whole _ _ _ _ _ _ items. items.value,
     -- Attribute Attributed Items
-    (λ whole u0 item items. item.value ∷ items.value,
+    (λ whole _ item items. item.value ∷ items.value,
     tt))
 makes N.Items =
     -- nothing
     (λ whole. [],
     -- '#' Attribute Attributed Items
-    (λ whole u0 u1 item items. item.value ∷ items.value,
+    (λ whole _ _ item items. item.value ∷ items.value,
     -- Item Items
     (items.first_item,
     tt)))
 makes N.Attribute =
     -- '[' AttributeName '(' List(Names) ']'
-    (λ whole u0 u1 u2 u3 u4. tt,
+    (λ whole _ _ _ _ _. tt,
     tt)
 makes N.Attributed =
     -- '#' Attribute Attributed
-    (λ whole u0 u1 item. item.value,
+    (λ whole _ _ item. item.value,
     -- 'pub' Declaration
-    (λ whole u0 item. item.value,
+    (λ whole _ item. item.value,
     -- Declaration
     (λ whole item. item.value,
     tt)))
 makes N.Item =
     -- 'pub' Declaration
-    (λ whole u0 item. item.value,
+    (λ whole _ item. item.value,
     -- Declaration
     (λ whole item. item.value,
     -- 'use' 'std' '::' 'mem' ';'
-    (λ whole u0 u1 u2 u3 u4. items.use_mem,
+    (λ whole _ _ _ _ _. items.use_mem,
     tt)))
 makes N.Declaration =
     -- 'fn' Identifier Generics '(' List(Parameters) Result Block
@@ -96,11 +96,11 @@ makes N.Generics =
     -- nothing
     (λ whole. items.no_generics,
     -- '<' Lifetimes
-    (λ whole u0 generics. generics.value,
+    (λ whole _ generics. generics.value,
     tt))
 makes N.Lifetimes =
     -- '>'
-    (λ whole u0. items.no_generics,
+    (λ whole _. items.no_generics,
     -- Lifetime MoreLifetimes
     (items.first_lifetime,
     -- Identifier ListRest(TypeNames)
@@ -108,27 +108,27 @@ makes N.Lifetimes =
     tt)))
 makes N.MoreLifetimes =
     -- '>'
-    (λ whole u0. items.no_generics,
+    (λ whole _. items.no_generics,
     -- ',' Lifetimes
-    (λ whole u0 generics. generics.value,
+    (λ whole _ generics. generics.value,
     tt))
 makes N.TypeParameters =
     -- nothing
     (λ whole. [],
     -- '<' List(TypeNames)
-    (λ whole u0 names. names.value,
+    (λ whole _ names. names.value,
     tt))
 makes N.Parameter =
     -- 'mut' Identifier ':' Type
-    (λ whole u0 name u2 ty. items.parameter true name ty,
+    (λ whole _ name _ ty. items.parameter true name ty,
     -- Identifier ':' Type
-    (λ whole name u1 ty. items.parameter false name ty,
+    (λ whole name _ ty. items.parameter false name ty,
     tt))
 makes N.Result =
     -- nothing
     (λ whole. None,
     -- '->' Type
-    (λ whole u0 ty. Some ty.value,
+    (λ whole _ ty. Some ty.value,
     tt))
 makes N.StructBody =
     -- '{' List(Fields)
@@ -136,17 +136,17 @@ makes N.StructBody =
     -- '(' List(TupleFields) ';'
     (items.brackets,
     -- ';'
-    (λ whole u0. items.no_fields,
+    (λ whole _. items.no_fields,
     tt)))
 makes N.Field =
     -- 'pub' Identifier ':' Type
-    (λ whole u0 name u2 ty. items.field name ty,
+    (λ whole _ name _ ty. items.field name ty,
     -- Identifier ':' Type
-    (λ whole name u1 ty. items.field name ty,
+    (λ whole name _ ty. items.field name ty,
     tt))
 makes N.TupleField =
     -- 'pub' Type
-    (λ whole u0 ty. ty.value,
+    (λ whole _ ty. ty.value,
     -- Type
     (λ whole ty. ty.value,
     tt))
@@ -158,19 +158,19 @@ makes N.VariantBody =
     -- nothing
     (λ whole. [],
     -- '(' List(Types)
-    (λ whole u0 tys. tys.value,
+    (λ whole _ tys. tys.value,
     tt))
 makes (N.List x) =
     -- closing(x)
-    (λ whole u0. [],
+    (λ whole _. [],
     -- item(x) ListRest(x)
     (λ whole one more. listed x one ∷ more.value,
     tt))
 makes (N.ListRest x) =
     -- closing(x)
-    (λ whole u0. [],
+    (λ whole _. [],
     -- ',' List(x)
-    (λ whole u0 more. more.value,
+    (λ whole _ more. more.value,
     tt))
 makes N.Type =
     -- IntWord
@@ -196,25 +196,25 @@ makes N.BorrowMut =
     -- nothing
     (λ whole. false,
     -- 'mut'
-    (λ whole u0. true,
+    (λ whole _. true,
     tt))
 makes N.TypeArguments =
     -- nothing
     (λ whole. [],
     -- '<' List(TypesInAngles)
-    (λ whole u0 tys. tys.value,
+    (λ whole _ tys. tys.value,
     tt))
 makes N.AfterTypeOpen =
     -- ')'
-    (λ whole u0. [],
+    (λ whole _. [],
     -- Type AfterType
     (λ whole ty more. ty.value ∷ more.value,
     tt))
 makes N.AfterType =
     -- ')'
-    (λ whole u0. [],
+    (λ whole _. [],
     -- ',' Type ListRest(Types)
-    (λ whole u0 ty more. ty.value ∷ more.value,
+    (λ whole _ ty more. ty.value ∷ more.value,
     tt))
 makes N.Block =
     -- '{' Statements
@@ -228,7 +228,7 @@ makes N.Statements =
     tt))
 makes N.MoreStatements =
     -- ';' Statements
-    (λ whole u0 body. body.value,
+    (λ whole _ body. body.value,
     -- 'let' Pattern LetType LetValue ';' Statements
     (blocks.let_statement,
     -- BlockLike AfterBlockLike
@@ -238,27 +238,27 @@ makes N.MoreStatements =
     tt))))
 makes N.AfterBlockLike =
     -- '}'
-    (λ whole u0. None,
+    (λ whole _. None,
     -- MoreStatements
     (λ whole body. Some body.value,
     tt))
 makes N.AfterExpression =
     -- '}'
-    (λ whole u0. None,
+    (λ whole _. None,
     -- ';' Statements
-    (λ whole u0 body. Some body.value,
+    (λ whole _ body. Some body.value,
     tt))
 makes N.LetType =
     -- nothing
     (λ whole. None,
     -- ':' Type
-    (λ whole u0 ty. Some ty.value,
+    (λ whole _ ty. Some ty.value,
     tt))
 makes N.LetValue =
     -- nothing
     (λ whole. None,
     -- '=' Expression(Free)
-    (λ whole u0 value. Some value.value,
+    (λ whole _ value. Some value.value,
     tt))
 makes N.BlockLike =
     -- Block
@@ -274,9 +274,9 @@ makes N.BlockLike =
     tt)))))
 makes N.AfterWhile =
     -- Expression(Condition) Block
-    (λ whole e yes. blocks.holds e yes None,
+    (λ whole e body. blocks.holds e body None,
     -- 'let' Pattern '=' Expression(Condition) Block
-    (λ whole u0 pat u2 e yes. blocks.matches pat e yes None,
+    (λ whole _ pat _ e body. blocks.matches pat e body None,
     tt))
 makes N.If =
     -- 'if' AfterIf
@@ -284,15 +284,15 @@ makes N.If =
     tt)
 makes N.AfterIf =
     -- Expression(Condition) Block Else
-    (λ whole e yes no. blocks.holds e yes no.value,
+    (λ whole e body other. blocks.holds e body other.value,
     -- 'let' Pattern '=' Expression(Condition) Block Else
-    (λ whole u0 pat u2 e yes no. blocks.matches pat e yes no.value,
+    (λ whole _ pat _ e body other. blocks.matches pat e body other.value,
     tt))
 makes N.Else =
     -- nothing
     (λ whole. None,
     -- 'else' AfterElse
-    (λ whole u0 no. Some no.value,
+    (λ whole _ e. Some e.value,
     tt))
 makes N.AfterElse =
     -- If
@@ -302,7 +302,7 @@ makes N.AfterElse =
     tt))
 makes N.Arms =
     -- '}'
-    (λ whole u0. [],
+    (λ whole _. [],
     -- Pattern '=>' ArmBody
     (blocks.arm,
     tt))
@@ -314,17 +314,17 @@ makes N.ArmBody =
     tt))
 makes N.AfterBlockArm =
     -- ',' Arms
-    (λ whole u0 arms. arms.value,
+    (λ whole _ arms. arms.value,
     -- '}'
-    (λ whole u0. [],
+    (λ whole _. [],
     -- Pattern '=>' ArmBody
     (blocks.arm,
     tt)))
 makes N.AfterArm =
     -- ',' Arms
-    (λ whole u0 arms. arms.value,
+    (λ whole _ arms. arms.value,
     -- '}'
-    (λ whole u0. [],
+    (λ whole _. [],
     tt))
 makes (N.Expression At.Condition) =
     -- 'return' Expression(Condition)
@@ -332,7 +332,7 @@ makes (N.Expression At.Condition) =
     -- 'break' Expression(Condition)
     (exprs.broken_value,
     -- 'continue'
-    (λ whole u0. s.go_on whole,
+    (λ whole _. s.go_on whole,
     -- Level(Or, Condition) MoreAssign(Condition)
     (operators.grouped,
     tt))))
@@ -342,7 +342,7 @@ makes (N.Expression At.Free) =
     -- 'break' Operand
     (exprs.broken,
     -- 'continue'
-    (λ whole u0. s.go_on whole,
+    (λ whole _. s.go_on whole,
     -- Level(Or, Free) MoreAssign(Free)
     (operators.grouped,
     tt))))
@@ -352,7 +352,7 @@ makes N.LeadingExpression =
     -- 'break' Operand
     (exprs.broken,
     -- 'continue'
-    (λ whole u0. s.go_on whole,
+    (λ whole _. s.go_on whole,
     -- LeadingLevel(Or) MoreAssign(Free)
     (operators.grouped,
     tt))))
@@ -472,7 +472,7 @@ makes N.LeadingUnary =
     tt)))))
 makes (N.Borrowed m) =
     -- 'mut' Unary(m)
-    (λ whole u0 e. operators.borrowed true e,
+    (λ whole _ e. operators.borrowed true e,
     -- Unary(m)
     (λ whole e. operators.borrowed false e,
     tt))
@@ -480,7 +480,7 @@ makes N.Postfix =
     -- nothing
     (λ whole. [],
     -- '.' FieldName Postfix
-    (λ whole u0 name more. name.value ∷ more.value,
+    (λ whole _ name more. name.value ∷ more.value,
     tt))
 makes N.FieldName =
     -- Identifier
@@ -510,15 +510,15 @@ makes (N.Core m) =
     tt)))))))))
 makes N.AfterOpen =
     -- ')'
-    (λ whole u0. [],
+    (λ whole _. [],
     -- Expression(Free) AfterFirst
     (λ whole e more. e.value ∷ more.value,
     tt))
 makes N.AfterFirst =
     -- ')'
-    (λ whole u0. [],
+    (λ whole _. [],
     -- ',' Expression(Free) ListRest(Arguments)
-    (λ whole u0 e more. e.value ∷ more.value,
+    (λ whole _ e more. e.value ∷ more.value,
     tt))
 makes N.Initial =
     -- Identifier InitialValue
@@ -528,7 +528,7 @@ makes N.InitialValue =
     -- nothing
     (λ whole. None,
     -- ':' Expression(Free)
-    (λ whole u0 e. Some e.value,
+    (λ whole _ e. Some e.value,
     tt))
 makes (N.AfterName m) =
     -- nothing
@@ -542,7 +542,7 @@ makes (N.AfterPanic m) =
     -- NameMore(m)
     (λ whole rest. rest.value,
     -- '!' '(' Message
-    (λ whole u0 u1 u2. paths.panics,
+    (λ whole _ _ _. paths.panics,
     tt)))
 makes (N.AfterAssert m) =
     -- nothing
@@ -558,7 +558,7 @@ makes (N.AfterMem m) =
     -- Applied(m)
     (paths.applied,
     -- '::' AfterMemColons(m)
-    (λ whole u0 rest. rest.value,
+    (λ whole _ rest. rest.value,
     tt)))
 makes (N.AfterStd m) =
     -- nothing
@@ -566,13 +566,13 @@ makes (N.AfterStd m) =
     -- Applied(m)
     (paths.applied,
     -- '::' AfterStdColons(m)
-    (λ whole u0 rest. rest.value,
+    (λ whole _ rest. rest.value,
     tt)))
 makes (N.NameMore m) =
     -- Applied(m)
     (paths.applied,
     -- '::' AfterColons(m)
-    (λ whole u0 rest. rest.value,
+    (λ whole _ rest. rest.value,
     tt))
 makes (N.Applied At.Free) =
     -- '(' List(Arguments)
@@ -612,11 +612,11 @@ makes N.AfterStdMem =
     -- '(' List(Arguments)
     (λ whole bracket exprs. in_mem.Second (paths.plain_call bracket exprs),
     -- '::' AfterStdMemColons
-    (λ whole u0 rest. rest.value,
+    (λ whole _ rest. rest.value,
     tt)))
 makes N.AfterStdMemColons =
     -- '<' List(TypesInAngles) '(' List(Arguments)
-    (λ whole u0 tys u2 exprs. in_mem.Second (paths.call_with_types tys exprs),
+    (λ whole _ tys _ exprs. in_mem.Second (paths.call_with_types tys exprs),
     -- SwapName AfterPath
     (paths.std_built_in,
     tt))
@@ -632,35 +632,35 @@ makes N.AfterPath =
     -- '(' List(Arguments)
     (λ whole bracket exprs. paths.plain_call bracket exprs,
     -- '::' '<' List(TypesInAngles) '(' List(Arguments)
-    (λ whole u0 u1 tys u3 exprs. paths.call_with_types tys exprs,
+    (λ whole _ _ tys _ exprs. paths.call_with_types tys exprs,
     tt)))
 makes N.Message =
     -- ')'
-    (λ whole u0. tt,
+    (λ whole _. tt,
     -- Text ')'
-    (λ whole u0 u1. tt,
+    (λ whole _ _. tt,
     tt))
 makes N.AssertEnd =
     -- ')'
-    (λ whole u0. tt,
+    (λ whole _. tt,
     -- ',' AfterAssertComma
-    (λ whole u0 u1. tt,
+    (λ whole _ _. tt,
     tt))
 makes N.AfterAssertComma =
     -- ')'
-    (λ whole u0. tt,
+    (λ whole _. tt,
     -- Text AfterMessage
-    (λ whole u0 u1. tt,
+    (λ whole _ _. tt,
     tt))
 makes N.AfterMessage =
     -- ')'
-    (λ whole u0. tt,
+    (λ whole _. tt,
     -- ',' ')'
-    (λ whole u0 u1. tt,
+    (λ whole _ _. tt,
     tt))
 makes N.Pattern =
     -- '_'
-    (λ whole u0. p.wild whole,
+    (λ whole _. p.wild whole,
     -- 'mut' Identifier
     (patterns.binding,
     -- '-' Integer
@@ -682,15 +682,15 @@ makes N.Pattern =
     tt))))))))))
 makes N.AfterPatternOpen =
     -- ')'
-    (λ whole u0. [],
+    (λ whole _. [],
     -- Pattern AfterPattern
     (λ whole pat more. pat.value ∷ more.value,
     tt))
 makes N.AfterPattern =
     -- ')'
-    (λ whole u0. [],
+    (λ whole _. [],
     -- ',' Pattern ListRest(Patterns)
-    (λ whole u0 pat more. pat.value ∷ more.value,
+    (λ whole _ pat more. pat.value ∷ more.value,
     tt))
 makes N.FieldPattern =
     -- Identifier FieldPatternValue
@@ -700,7 +700,7 @@ makes N.FieldPatternValue =
     -- nothing
     (λ whole. None,
     -- ':' Pattern
-    (λ whole u0 pat. Some pat.value,
+    (λ whole _ pat. Some pat.value,
     tt))
 makes N.PatternParts =
     -- nothing
@@ -710,9 +710,9 @@ makes N.PatternParts =
     tt))
 makes N.GivenParts =
     -- '(' List(Patterns)
-    (λ whole u0 pats. given.Placed pats.value,
+    (λ whole _ pats. given.Placed pats.value,
     -- '{' List(FieldPatterns)
-    (λ whole u0 fields. given.Named fields.value,
+    (λ whole _ fields. given.Named fields.value,
     tt))
 makes N.AfterPatternName =
     -- nothing
@@ -720,7 +720,7 @@ makes N.AfterPatternName =
     -- GivenParts
     (λ whole parts. name.Parts parts.value,
     -- '::' AfterPatternColons
-    (λ whole u0 rest. rest.value,
+    (λ whole _ rest. rest.value,
     tt)))
 makes N.AfterPatternMem =
     -- nothing
@@ -728,7 +728,7 @@ makes N.AfterPatternMem =
     -- GivenParts
     (λ whole parts. name.Parts parts.value,
     -- '::' AfterPatternMemColons
-    (λ whole u0 rest. rest.value,
+    (λ whole _ rest. rest.value,
     tt)))
 makes N.AfterPatternStd =
     -- nothing
@@ -736,7 +736,7 @@ makes N.AfterPatternStd =
     -- GivenParts
     (λ whole parts. name.Parts parts.value,
     -- '::' AfterPatternStdColons
-    (λ whole u0 rest. rest.value,
+    (λ whole _ rest. rest.value,
     tt)))
 makes N.AfterPatternColons =
     -- '<' List(TypesInAngles) '::' Identifier PatternParts

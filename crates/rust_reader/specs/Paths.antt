@@ -23,17 +23,17 @@ use Rattle.rust_reader.specs.Blocks.{asserted}
 -- a path, called or not
 abbrev pub called : Span → t.Path → Calling → s.Expr
 called whole path calling.Nothing = s.path whole path
-called whole path (calling.Arguments turbo arguments) = s.call whole path turbo (s.exprs arguments)
+called whole path (calling.Arguments tys arguments) = s.call whole path tys (s.exprs arguments)
 
 -- a name with its types, and what it is applied to or a second name
 abbrev pub continued : Span → Ident → t.Turbo → Further → s.Expr
-continued whole name turbo (further.Arguments arguments) = s.call whole (t.one name) turbo (s.exprs arguments)
-continued whole name turbo (further.Fields initials) = s.literal whole name turbo (s.inits initials)
-continued whole name turbo (further.Second second rest) = called whole (t.two name turbo second) rest
+continued whole name tys (further.Arguments arguments) = s.call whole (t.one name) tys (s.exprs arguments)
+continued whole name tys (further.Fields initials) = s.literal whole name tys (s.inits initials)
+continued whole name tys (further.Second second rest) = called whole (t.two name tys second) rest
 
 abbrev pub begun_by : Span → Ident → After → s.Expr
 begun_by whole name after.Nothing = s.path whole (t.one name)
-begun_by whole name (after.More turbo more) = continued whole name turbo more
+begun_by whole name (after.More tys more) = continued whole name tys more
 begun_by whole name (after.BuiltIn word span rest) = called whole (built_in word (from_to whole.lo span.hi) name.span false) rest
 begun_by whole name (after.StdBuiltIn mem word span rest) = called whole (built_in word (from_to whole.lo span.hi) mem true) rest
 begun_by whole name after.Panics = s.panic whole

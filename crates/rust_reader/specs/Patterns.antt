@@ -3,7 +3,7 @@ use Rattle.std.specs.Prelude.{ℕ, Bool, true, false, List, [], ◌∷◌, Optio
 use Rattle.aen_base.specs.declared.span.Span.{Span}
 use Rattle.source_grammar.specs.declared.class.Class.{Class}
 use Rattle.source_grammar.specs.declared.lexeme.Lexeme.{Lexeme}
-use Rattle.rust_lex.specs.declared.token.Integer.{Integer}
+use Rattle.aen_base.specs.declared.int_ty.IntTy.{IntTy}
 use Rattle.rust_ast.specs.declared.ident.Ident.{Ident}
 use Rattle.rust_ast.specs.Patterns as suffixes
 use Rattle.rust_ast.specs.SourceTypes as t
@@ -21,8 +21,8 @@ use Rattle.rust_reader.specs.PathNodes.{built_in}
 abbrev pub binding : Span → Lexeme → Lexeme → p.Pat
 binding whole mutable name = p.mut_bind whole (ident name)
 
-abbrev pub number_of : Span → Bool → Integer → p.Pat
-number_of whole negative n = p.number whole negative n.value (suffixes.suffix n.suffix)
+abbrev pub number_of : Span → Bool → ℕ × Option IntTy → p.Pat
+number_of whole negative n = p.number whole negative n.0 (suffixes.suffix n.1)
 
 abbrev pub negative_pattern : Span → Lexeme → Lexeme → p.Pat
 negative_pattern whole minus number = number_of whole true (number_in number.content)
@@ -51,7 +51,7 @@ with_parts whole path (given.Named fields) = p.literal whole path (p.fieldpats f
 abbrev pub begun_by : Span → Ident → AfterName → p.Pat
 begun_by whole name after.Nothing = p.lone name
 begun_by whole name (after.Parts parts) = with_parts whole (t.one name) parts
-begun_by whole name (after.Second turbo second parts) = with_parts whole (t.two name turbo second) parts
+begun_by whole name (after.Second tys second parts) = with_parts whole (t.two name tys second) parts
 begun_by whole name (after.BuiltIn word span parts) = with_parts whole (built_in word (from_to whole.lo span.hi) name.span false) parts
 begun_by whole name (after.StdBuiltIn mem word span parts) = with_parts whole (built_in word (from_to whole.lo span.hi) mem true) parts
 

@@ -23,9 +23,9 @@ pub enum Condition {
 pub struct Conditional {
     pub condition: Condition,
     /// What is done where it is met.
-    pub yes: Block,
+    pub body: Block,
     /// What stands after `else`.
-    pub no: Option<Expr>,
+    pub otherwise: Option<Expr>,
 }
 
 /// The body of an arm, and the arms after it.

@@ -1,11 +1,10 @@
-ghost use Rattle.std.specs.Prelude.{◌≡◌, [], ◌∷◌, OnOk, OnErr};
+ghost use Rattle.std.specs.Prelude.{◌≡◌, [], ◌∷◌, IfOk};
 
 use aen_base::{List, NoMem};
 use std::alloc::Global;
 use std::marker::Model;
 
 /// A list that grows at its front: it keeps its items in reverse.
-#[derive(Debug)]
 pub struct FrontList<T> {
     reversed: Vec<T>,
 }
@@ -50,7 +49,7 @@ impl<T> FrontList<T> {
 impl<T: Drop> FrontList<T> {
     /// Adds an item at the front. The only error is want of memory.
     pub fn push(self, item: T) -> Result<FrontList<T>, NoMem>
-        ensures { OnOk result (λ it. it ≡ item ∷ self) }
+        ensures { IfOk result (λ it. it ≡ item ∷ self) }
     {
         let FrontList { mut reversed } = self;
         reversed.push(item)?;
