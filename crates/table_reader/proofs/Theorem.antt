@@ -75,13 +75,13 @@ module _ {T N L : Type 0} (takes : T → L → Take L) (productions : N → List
   turns k s l = Steps.turns takes productions rank weight k s l
 
   abbrev pub heads : ℕ → List Symbols → List T
-  heads d ps = C.heads productions rank fits.follow fits.apart fits.same d ps
+  heads d ps = C.heads productions d ps
 
   abbrev pub firsts : Symbols → List T → List T
   firsts p after = C.firsts productions rank fits.follow fits.apart fits.same p after
 
   abbrev pub firm : ℕ → List Symbols → Bool
-  firm d ps = C.firm productions rank fits.follow fits.apart fits.same d ps
+  firm d ps = C.firm productions d ps
 
   abbrev pub sits : Symbols → List T → Bool
   sits p after = C.sits productions rank fits.follow fits.apart fits.same p after

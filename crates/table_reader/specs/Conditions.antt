@@ -19,7 +19,7 @@ single [] = true
 single ([] ∷ ps) = not (has_empty ps)
 single ((s ∷ p) ∷ ps) = single ps
 
-module _ {T N : Type 0} (productions : N → List (List (Symbol T N))) (rank : ℕ) (follow : N → List T) (apart same : T → T → Bool) where
+module _ {T N : Type 0} (productions : N → List (List (Symbol T N))) where
   -- the tokens that productions begin with, through leading parts of so much less rank
   abbrev pub heads : ℕ → List (List (Symbol T N)) → List T
   heads d [] = []
@@ -36,11 +36,12 @@ module _ {T N : Type 0} (productions : N → List (List (Symbol T N))) (rank : �
   firm zero ((S.Part n ∷ p) ∷ ps) = false
   firm (suc d) ((S.Part n ∷ p) ∷ ps) = (not (has_empty (productions n)) && firm d (productions n)) && firm (suc d) ps
 
+module _ {T N : Type 0} (productions : N → List (List (Symbol T N))) (rank : ℕ) (follow : N → List T) (apart same : T → T → Bool) where
   -- the tokens that these symbols begin with, where these tokens may come after them
   abbrev pub firsts : List (Symbol T N) → List T → List T
   firsts [] after = after
   firsts (S.Token t ∷ p) after = t ∷ []
-  firsts (S.Part n ∷ p) after = heads rank (productions n) ++ (if has_empty (productions n) then firsts p after else [])
+  firsts (S.Part n ∷ p) after = heads productions rank (productions n) ++ (if has_empty (productions n) then firsts p after else [])
 
   abbrev pub among : List T → List T → Bool
   among ts us = list_all (λ t. list_any (same t) us) ts
@@ -62,9 +63,9 @@ module _ {T N : Type 0} (productions : N → List (List (Symbol T N))) (rank : �
   -- where it may be empty, it begins apart from what follows it, and is empty in one way
   abbrev pub fits_part : N → Bool
   fits_part n =
-      firm rank (productions n) && (all_apart (heads rank (productions n))
+      firm productions rank (productions n) && (all_apart (heads productions rank (productions n))
       && (list_all (λ p. sits p (follow n)) (productions n)
-      && ((if has_empty (productions n) then each_apart (heads rank (productions n)) (follow n) else true)
+      && ((if has_empty (productions n) then each_apart (heads productions rank (productions n)) (follow n) else true)
       && single (productions n))))
 
 -- a table from which first faults can be told, and values
