@@ -139,3 +139,52 @@ AfterPatternMemColons = patterns.second_after_types | patterns.built_in_name | p
 AfterPatternStdColons = patterns.second_after_types | patterns.std_mem_name | patterns.second_name
 AfterPatternStdMem = after_mem.Second (given.Placed []) | parts. after_mem.Second parts | patterns.std_built_in_name
 """
+
+# What values hold: of each variant its name, its type in code and in the logic, and the parts that are read so. A variant's
+# method has its name in lower case.
+SORTS = """
+Nothing      | ()                           | Unit {0}               | Attribute Message AssertEnd AfterAssertComma AfterMessage
+Items        | FrontList<Item>              | List Item              | Program AfterHash Items
+Item         | Item                         | Item                   | Attributed Item Declaration
+Generics     | Generics                     | Generics               | Generics Lifetimes MoreLifetimes
+Names        | FrontList<Ident>             | List Ident             | TypeParameters Postfix List(Names) ListRest(Names) List(TypeNames) ListRest(TypeNames)
+Parameter    | Param                        | Param                  | Parameter
+Parameters   | FrontList<Param>             | List Param             | List(Parameters) ListRest(Parameters)
+Body         | Fields                       | Fields                 | StructBody
+Field        | (Span, Name, Written)        | Field                  | Field
+Fields       | FrontList<(Span, Name, Written)> | List Field         | List(Fields) ListRest(Fields)
+Variant      | Variant                      | Variant                | Variant
+Variants     | FrontList<Variant>           | List Variant           | List(Variants) ListRest(Variants)
+Type         | Written                      | t.Written              | Type TupleField
+Types        | FrontList<Written>           | List t.Written         | VariantBody TypeArguments AfterTypeOpen AfterType List(TupleFields) ListRest(TupleFields) List(TypesInAngles) ListRest(TypesInAngles) List(Types) ListRest(Types)
+MaybeType    | Option<Written>              | Option t.Written       | Result LetType
+Lifetime     | Lifetime                     | t.Lifetime             | BorrowLifetime
+Truth        | bool                         | Bool                   | BorrowMut
+Block        | Block                        | s.Block                | Block
+Statements   | Body                         | Body                   | Statements MoreStatements
+Following    | Option<Body>                 | Option Body            | AfterBlockLike AfterExpression
+Expr         | Expr                         | s.Expr                 | BlockLike If AfterElse Expression(m) LeadingExpression Level(l,m) LeadingLevel(l) Cast(m) LeadingCast Unary(m) LeadingUnary Core(m)
+Exprs        | FrontList<Expr>              | List s.Expr            | AfterOpen AfterFirst List(Arguments) ListRest(Arguments)
+MaybeExpr    | Option<Expr>                 | Option s.Expr          | LetValue Else Operand InitialValue
+Conditional  | Conditional                  | Conditional            | AfterWhile AfterIf
+Arms         | FrontList<(Pat, Expr)>       | List (p.Pat × s.Expr)  | Arms AfterBlockArm AfterArm
+ArmBody      | ArmBody                      | ArmBody                | ArmBody
+Operations   | FrontList<Operation>         | List Operation         | MoreAssign(m) More(l,m)
+Casts        | FrontList<(Span, IntTy)>     | List (Span × IntTy)    | MoreCasts
+Borrowed     | Borrowed                     | Borrowed               | Borrowed(m)
+Name         | Ident                        | Ident                  | FieldName
+Initial      | (Span, Name, Expr)           | Initial                | Initial
+Initials     | FrontList<(Span, Name, Expr)> | List Initial          | List(Initials) ListRest(Initials)
+After        | After                        | After                  | AfterName(m) AfterPanic(m) AfterAssert(m) AfterMem(m) AfterStd(m) NameMore(m) AfterColons(m) AfterMemColons(m) AfterStdColons(m)
+Further      | Further                      | Further                | Applied(m) AfterTurbo(m)
+Calling      | Calling                      | Calling                | AfterPath
+InMem        | InMem                        | InMem                  | AfterStdMem AfterStdMemColons
+Pattern      | Pat                          | p.Pat                  | Pattern
+Patterns     | FrontList<Pat>               | List p.Pat             | AfterPatternOpen AfterPattern List(Patterns) ListRest(Patterns)
+FieldPattern | FieldPat                     | p.FieldPat             | FieldPattern
+FieldPatterns | FrontList<FieldPat>         | List p.FieldPat        | List(FieldPatterns) ListRest(FieldPatterns)
+MaybePattern | Option<Pat>                  | Option p.Pat           | FieldPatternValue
+Given        | Given                        | Given                  | PatternParts GivenParts
+AfterName    | AfterName                    | AfterName              | AfterPatternName AfterPatternMem AfterPatternStd AfterPatternColons AfterPatternMemColons AfterPatternStdColons
+AfterMem     | AfterMem                     | AfterMem               | AfterPatternStdMem
+"""

@@ -31,7 +31,8 @@ use Rattle.rust_reader.specs.declared.paths.InMem.{InMem}
 use Rattle.rust_reader.specs.declared.constructors.Given.{Given}
 use Rattle.rust_reader.specs.declared.constructors.AfterName.{AfterName}
 use Rattle.rust_reader.specs.declared.constructors.AfterMem.{AfterMem}
-use Rattle.rust_reader.specs.Spans.{Spanned, join, span_of}
+use Rattle.rust_reader.specs.declared.spanned.Spanned.{Spanned}
+use Rattle.rust_reader.specs.Spans.{join, span_of}
 
 -- a field of a struct with its type, a field of a constructor with its value
 abbrev pub Field : Type 0

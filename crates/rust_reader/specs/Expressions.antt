@@ -8,7 +8,7 @@ use Rattle.rust_ast.specs.Patterns as suffixes
 use Rattle.rust_ast.specs.Source as s
 use Rattle.rust_ast.specs.SourceTypes as t
 use Rattle.rust_reader.specs.Carriers.{Initial}
-use Rattle.rust_reader.specs.Spans.{Spanned}
+use Rattle.rust_reader.specs.declared.spanned.Spanned.{Spanned}
 use Rattle.rust_reader.specs.Says.{ident, number_in, truth}
 
 abbrev pub returned : Span → Lexeme → Spanned (Option s.Expr) → s.Expr

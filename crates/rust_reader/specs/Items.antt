@@ -13,7 +13,7 @@ use Rattle.rust_ast.specs.Source as s
 use Rattle.rust_ast.specs.SourceTypes as t
 use Rattle.rust_reader.specs.declared.generics.Generics.{Generics}
 use Rattle.rust_reader.specs.Carriers.{Field}
-use Rattle.rust_reader.specs.Spans.{Spanned}
+use Rattle.rust_reader.specs.declared.spanned.Spanned.{Spanned}
 use Rattle.rust_reader.specs.Says.{ident, lifetime_ident}
 
 abbrev pub first_item : Span → Spanned Item → Spanned (List Item) → List Item

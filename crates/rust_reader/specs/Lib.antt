@@ -10,3 +10,5 @@ pub mod Operators
 pub mod Expressions
 pub mod Items
 pub mod Makes
+pub mod Stacked
+pub mod Casts

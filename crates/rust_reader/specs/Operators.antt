@@ -16,7 +16,8 @@ use Rattle.rust_ast.specs.declared.ident.Ident.{Ident}
 use Rattle.rust_ast.specs.Source as s
 use Rattle.rust_reader.specs.declared.operations.Operation.{Operation}
 use Rattle.rust_reader.specs.declared.operations.Borrowed.{Borrowed}
-use Rattle.rust_reader.specs.Spans.{Spanned, from_to, span_of, same_span}
+use Rattle.rust_reader.specs.declared.spanned.Spanned.{Spanned}
+use Rattle.rust_reader.specs.Spans.{from_to, span_of, same_span}
 use Rattle.rust_reader.specs.Says.{ident, int_type_in}
 use Rattle.rust_reader.specs.Carriers.{Carried}
 

@@ -15,7 +15,8 @@ use Rattle.rust_reader.specs.declared.paths.After.TheVariants as after
 use Rattle.rust_reader.specs.declared.paths.InMem.{InMem}
 use Rattle.rust_reader.specs.declared.paths.InMem.TheVariants as in_mem
 use Rattle.rust_reader.specs.Carriers.{Initial}
-use Rattle.rust_reader.specs.Spans.{Spanned, from_to}
+use Rattle.rust_reader.specs.declared.spanned.Spanned.{Spanned}
+use Rattle.rust_reader.specs.Spans.{from_to}
 use Rattle.rust_reader.specs.Says.{ident}
 use Rattle.rust_reader.specs.PathNodes.{built_in}
 use Rattle.rust_reader.specs.Blocks.{asserted}

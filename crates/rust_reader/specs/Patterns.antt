@@ -14,7 +14,8 @@ use Rattle.rust_reader.specs.declared.constructors.AfterName.{AfterName}
 use Rattle.rust_reader.specs.declared.constructors.AfterName.TheVariants as after
 use Rattle.rust_reader.specs.declared.constructors.AfterMem.{AfterMem}
 use Rattle.rust_reader.specs.declared.constructors.AfterMem.TheVariants as in_mem
-use Rattle.rust_reader.specs.Spans.{Spanned, from_to}
+use Rattle.rust_reader.specs.declared.spanned.Spanned.{Spanned}
+use Rattle.rust_reader.specs.Spans.{from_to}
 use Rattle.rust_reader.specs.Says.{ident, number_in, truth}
 use Rattle.rust_reader.specs.PathNodes.{built_in}
 

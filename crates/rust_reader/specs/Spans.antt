@@ -2,12 +2,6 @@
 use Rattle.std.specs.Prelude.{ℕ, Bool, ◌&&◌, ◌==◌, Option, Some, None}
 use Rattle.aen_base.specs.declared.span.Span.{Span}
 
--- what a part was read as, and its extent: from the first byte of its first token to the last byte of
--- its last one, brackets among them; none where it has no token
-pub record Spanned (A : Type 0) : Type 0 where
-  pub value : A
-  pub extent : Option Span
-
 abbrev pub from_to : ℕ → ℕ → Span
 from_to lo hi = record { lo = lo; hi = hi }
 

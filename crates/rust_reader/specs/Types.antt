@@ -3,7 +3,7 @@ use Rattle.std.specs.Prelude.{Bool, List, [], ◌∷◌}
 use Rattle.aen_base.specs.declared.span.Span.{Span}
 use Rattle.source_grammar.specs.declared.lexeme.Lexeme.{Lexeme}
 use Rattle.rust_ast.specs.SourceTypes as t
-use Rattle.rust_reader.specs.Spans.{Spanned}
+use Rattle.rust_reader.specs.declared.spanned.Spanned.{Spanned}
 use Rattle.rust_reader.specs.Says.{ident, int_type_in}
 
 abbrev pub int_type : Span → Lexeme → t.Written

@@ -7,3 +7,7 @@ pub mod front_list;
 pub mod generics;
 pub mod operations;
 pub mod paths;
+mod pops;
+pub mod spanned;
+pub mod stack;
+pub mod value;
