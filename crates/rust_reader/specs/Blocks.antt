@@ -36,11 +36,14 @@ abbrev pub before : s.Stmt → Body → Body
 before statement body = record { statements = statement ∷ body.statements; value = body.value }
 
 -- a `let` ends where its pattern, type and value end
-abbrev pub let_statement : Span → Lexeme → Spanned p.Pat → Spanned (Option t.Written) → Spanned (Option s.Expr) → Lexeme → Spanned Body → Body
-let_statement whole word pat ty value semicolon rest =
+abbrev pub let_of : Lexeme → Spanned p.Pat → Spanned (Option t.Written) → Spanned (Option s.Expr) → Spanned Body → Body
+let_of word pat ty value rest =
     before
     (s.bind (span_of (join (Some word.span) (join pat.extent (join ty.extent value.extent)))) pat.value (t.maybewritten ty.value) (s.maybeexpr value.value))
     rest.value
+
+abbrev pub let_statement : Span → Lexeme → Spanned p.Pat → Spanned (Option t.Written) → Spanned (Option s.Expr) → Lexeme → Spanned Body → Body
+let_statement whole word pat ty value semicolon rest = let_of word pat ty value rest
 
 -- an expression with nothing after it is the block's value
 abbrev pub run : s.Expr → Bool → Option Body → Body

@@ -11,4 +11,3 @@ pub mod Expressions
 pub mod Items
 pub mod Makes
 pub mod Stacked
-pub mod Casts

@@ -1,4 +1,5 @@
 ghost use Rattle.std.specs.Prelude.{◌≡◌, [], ◌∷◌, IfOk};
+ghost use Rattle.rust_reader.specs.Stacked.{uncons};
 
 use aen_base::{List, NoMem};
 use std::alloc::Global;
@@ -47,6 +48,17 @@ impl<T> FrontList<T> {
 }
 
 impl<T: Drop> FrontList<T> {
+    /// The item at the front, and those after it.
+    pub fn pop(self) -> Option<(T, FrontList<T>)>
+        ensures { result ≡ uncons self }
+    {
+        let FrontList { mut reversed } = self;
+        match reversed.pop() {
+            Some(first) => Some((first, FrontList { reversed })),
+            None => None,
+        }
+    }
+
     /// Adds an item at the front. The only error is want of memory.
     pub fn push(self, item: T) -> Result<FrontList<T>, NoMem>
         ensures { IfOk result (λ it. it ≡ item ∷ self) }
