@@ -4,6 +4,7 @@ use Rattle.aen_base.specs.declared.span.Span.{Span}
 use Rattle.aen_base.specs.declared.int_ty.IntTy.{IntTy}
 use Rattle.table_reader.specs.declared.symbol.Symbol.{Symbol}
 use Rattle.table_reader.specs.declared.symbol.Symbol.TheVariants as S
+use Rattle.table_reader.specs.Reading.{Parts, Made}
 use Rattle.source_grammar.specs.declared.lexeme.Lexeme.{Lexeme}
 use Rattle.source_grammar.specs.declared.terminal.Terminal.{Terminal}
 use Rattle.source_grammar.specs.declared.part.Part.{Part}
@@ -163,9 +164,12 @@ abbrev pub Value : Symbol Terminal Part → Type 0
 Value (S.Token t) = Lexeme
 Value (S.Part n) = Spanned (Carried n)
 
+-- what the reader carries of a part
+abbrev pub Carrier : Part → Type 0
+Carrier n = Spanned (Carried n)
+
 abbrev pub Values : List (Symbol Terminal Part) → Type 0
-Values [] = Unit {0}
-Values (s ∷ p) = Value s × Values p
+Values p = Parts Terminal Part Lexeme Carrier p
 
 -- functions of the values of these symbols
 abbrev pub From : List (Symbol Terminal Part) → Type 0 → Type 0
@@ -174,15 +178,14 @@ From (s ∷ p) R = Value s → From p R
 
 abbrev pub apply : {R : Type 0} → (p : List (Symbol Terminal Part)) → From p R → Values p → R
 apply [] f vs = f
-apply (s ∷ p) f vs = apply p (f vs.0) vs.1
+apply (S.Token t ∷ p) f vs = apply p (f vs.0) vs.1
+apply (S.Part n ∷ p) f vs = apply p (f vs.0) vs.1
 
-abbrev pub extent_of : (s : Symbol Terminal Part) → Value s → Option Span
-extent_of (S.Token t) l = Some l.span
-extent_of (S.Part n) v = v.extent
-
+-- the extent of all
 abbrev pub extent : (p : List (Symbol Terminal Part)) → Values p → Option Span
 extent [] vs = None
-extent (s ∷ p) vs = join (extent_of s vs.0) (extent p vs.1)
+extent (S.Token t ∷ p) vs = join (Some vs.0.span) (extent p vs.1)
+extent (S.Part n ∷ p) vs = join vs.0.extent (extent p vs.1)
 
 -- for each of these productions of a part, what it is read as: a function of the span of the whole and
 -- of the values of its symbols
@@ -192,3 +195,8 @@ Makes n (p ∷ ps) = (Span → From p (Carried n)) × Makes n ps
 
 abbrev pub make : (n : Part) → (p : List (Symbol Terminal Part)) → (Span → From p (Carried n)) → Values p → Spanned (Carried n)
 make n p f vs = record { value = apply p (f (span_of (extent p vs))) vs; extent = extent p vs }
+
+-- the productions of a part, and what is made by each
+abbrev pub made_by : (n : Part) → (ps : List (List (Symbol Terminal Part))) → Makes n ps → List (Made Terminal Part Lexeme Carrier n)
+made_by n [] ways = []
+made_by n (p ∷ ps) ways = record { symbols = p; make = make n p ways.0 } ∷ made_by n ps ways.1

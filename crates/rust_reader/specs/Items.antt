@@ -19,17 +19,22 @@ use Rattle.rust_reader.specs.Says.{ident, lifetime_ident}
 abbrev pub first_item : Span → Spanned Item → Spanned (List Item) → List Item
 first_item whole x more = x.value ∷ more.value
 
-abbrev pub function : Span → Lexeme → Lexeme → Spanned Generics → Lexeme → Spanned (List Param) → Spanned (Option t.Written) → Spanned s.Block → Item
-function whole word name generics bracket params result body =
+abbrev pub function_of : Lexeme → Spanned Generics → Spanned (List Param) → Spanned (Option t.Written) → Spanned s.Block → Item
+function_of name generics params result body =
     items.Function (record { name = ident name; lifetimes = generics.value.lifetimes; type_params = generics.value.type_params;
                              params = params.value; result = result.value; body = body.value })
+
+abbrev pub function : Span → Lexeme → Lexeme → Spanned Generics → Lexeme → Spanned (List Param) → Spanned (Option t.Written) → Spanned s.Block → Item
+function whole word name generics bracket params result body = function_of name generics params result body
 
 abbrev pub structure : Span → Lexeme → Lexeme → Spanned (List Ident) → Spanned Fields → Item
 structure whole word name params fields = items.Struct (record { name = ident name; params = params.value; fields = fields.value })
 
+abbrev pub enumeration_of : Lexeme → Spanned (List Ident) → Spanned (List Variant) → Item
+enumeration_of name params variants = items.Enum (record { name = ident name; params = params.value; variants = variants.value })
+
 abbrev pub enumeration : Span → Lexeme → Lexeme → Spanned (List Ident) → Lexeme → Spanned (List Variant) → Item
-enumeration whole word name params brace variants =
-    items.Enum (record { name = ident name; params = params.value; variants = variants.value })
+enumeration whole word name params brace variants = enumeration_of name params variants
 
 -- ---- lifetimes and type parameters
 

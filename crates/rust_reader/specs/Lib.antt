@@ -10,4 +10,4 @@ pub mod Operators
 pub mod Expressions
 pub mod Items
 pub mod Makes
-pub mod Stacked
+pub mod Reading

@@ -1,5 +1,4 @@
-ghost use Rattle.std.specs.Prelude.{◌≡◌, [], ◌∷◌, IfOk};
-ghost use Rattle.rust_reader.specs.Stacked.{uncons};
+ghost use Rattle.std.specs.Prelude.{◌≡◌, [], ◌∷◌, IfOk, MatchOption};
 
 use aen_base::{List, NoMem};
 use std::alloc::Global;
@@ -48,15 +47,11 @@ impl<T> FrontList<T> {
 }
 
 impl<T: Drop> FrontList<T> {
-    /// The item at the front, and those after it.
-    pub fn pop(self) -> Option<(T, FrontList<T>)>
-        ensures { result ≡ uncons self }
+    /// Takes the item at the front off; None exactly where there is none.
+    pub fn pop(&mut self) -> Option<T>
+        ensures { MatchOption result ((self.old ≡ []) × (self.new ≡ [])) (λ first. self.old ≡ first ∷ self.new) }
     {
-        let FrontList { mut reversed } = self;
-        match reversed.pop() {
-            Some(first) => Some((first, FrontList { reversed })),
-            None => None,
-        }
+        self.reversed.pop()
     }
 
     /// Adds an item at the front. The only error is want of memory.
