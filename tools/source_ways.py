@@ -1,8 +1,8 @@
 #!/usr/bin/env python3
-"""Writes what each production of the grammar of sources is read as: source_ways.py [--check]
+"""Writes what each production of the grammar of sources is read as: source_ways.py, and then `rt fmt`
 
-Reads source_ways.desc.py and the grammar that it names, and writes `makes`, a clause for each part, with the production
-beside each way. `--check` writes nothing, and fails where the file isn't what would be written."""
+Reads source_ways.desc.py and the grammar that it names, and writes `makes`, a clause for each part, with its productions
+above it."""
 import os
 import re
 import sys
@@ -13,7 +13,7 @@ from grammar import Description, TOKEN, arguments  # noqa: E402
 
 HEAD = '''-- For each production of the grammar, in order, what is made of it (docs/LANGUAGE.md, "Grammar", "Read as", "Spans").
 -- Written by tools/source_ways.py.
-use Rattle.std.specs.Prelude.{true, false, List, [], ◌∷◌, Some, None}
+use Rattle.std.specs.Prelude.{true, false, [], ◌∷◌, Some, None}
 use Rattle.source_grammar.specs.declared.part.Part.{Part}
 use Rattle.source_grammar.specs.declared.part.Part.TheVariants as N
 use Rattle.source_grammar.specs.declared.part.Context.TheVariants as At
@@ -112,11 +112,10 @@ def makes(grammar, ways):
         productions = symbols_of(grammar, head)
         seen.add(arguments(head)[0])
         assert len(productions) == len(given), (head, productions, given)
+        out += [f"-- {' '.join(words) or 'nothing'}" for words in productions]
+        terms = [term(grammar, way, words) for way, words in zip(given, productions)]
         out.append(f"makes {pattern(grammar, head)} =")
-        for way, words in zip(given, productions):
-            out.append(f"    -- {' '.join(words) or 'nothing'}")
-            out.append(f"    ({term(grammar, way, words)},")
-        out.append("    tt" + ")" * len(given))
+        out.append("    (" + ", (".join(terms) + ", tt" + ")" * len(terms))
     assert seen == set(grammar.parts), set(grammar.parts) ^ seen
     return "\n".join(out) + "\n"
 
@@ -128,8 +127,6 @@ def main():
     uses = "".join(f"use Rattle.rust_reader.specs.{m} as {a}\n" for m, a in values["MODULES"].items())
     text = HEAD + uses + LISTED + listed(grammar) + makes(grammar, read_ways(values["WAYS"]))
     path = os.path.join(HERE, "..", values["OUT"])
-    if "--check" in sys.argv:
-        sys.exit(0 if open(path, encoding="utf-8").read() == text else "not what would be written")
     open(path, "w", encoding="utf-8").write(text)
 
 

@@ -12,7 +12,7 @@ use Rattle.rust_reader.specs.declared.clauses.Condition.TheVariants as condition
 use Rattle.rust_reader.specs.declared.clauses.Conditional.{Conditional}
 use Rattle.rust_reader.specs.declared.clauses.ArmBody.{ArmBody}
 use Rattle.rust_reader.specs.declared.spanned.Spanned.{Spanned}
-use Rattle.rust_reader.specs.Spans.{from_to, join, span_of}
+use Rattle.rust_reader.specs.Spans.{join, span_of}
 
 abbrev pub block_of : Span → Body → s.Block
 block_of whole body = s.block whole (s.stmts body.statements) (s.maybeexpr body.value)

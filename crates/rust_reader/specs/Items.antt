@@ -1,5 +1,5 @@
 -- How items are read. Attributes and `pub` have no meaning.
-use Rattle.std.specs.Prelude.{ℕ, Bool, List, [], ◌∷◌, Option}
+use Rattle.std.specs.Prelude.{Bool, List, [], ◌∷◌, Option}
 use Rattle.aen_base.specs.declared.span.Span.{Span}
 use Rattle.source_grammar.specs.declared.lexeme.Lexeme.{Lexeme}
 use Rattle.rust_ast.specs.declared.ident.Ident.{Ident}
@@ -21,8 +21,14 @@ first_item whole x more = x.value ∷ more.value
 
 abbrev pub function_of : Lexeme → Spanned Generics → Spanned (List Param) → Spanned (Option t.Written) → Spanned s.Block → Item
 function_of name generics params result body =
-    items.Function (record { name = ident name; lifetimes = generics.value.lifetimes; type_params = generics.value.type_params;
-                             params = params.value; result = result.value; body = body.value })
+    items.Function (record {
+      name = ident name;
+      lifetimes = generics.value.lifetimes;
+      type_params = generics.value.type_params;
+      params = params.value;
+      result = result.value;
+      body = body.value;
+    })
 
 abbrev pub function : Span → Lexeme → Lexeme → Spanned Generics → Lexeme → Spanned (List Param) → Spanned (Option t.Written) → Spanned s.Block → Item
 function whole word name generics bracket params result body = function_of name generics params result body

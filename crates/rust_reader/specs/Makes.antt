@@ -1,6 +1,6 @@
 -- For each production of the grammar, in order, what is made of it (docs/LANGUAGE.md, "Grammar", "Read as", "Spans").
 -- Written by tools/source_ways.py.
-use Rattle.std.specs.Prelude.{true, false, List, [], ◌∷◌, Some, None}
+use Rattle.std.specs.Prelude.{true, false, [], ◌∷◌, Some, None}
 use Rattle.source_grammar.specs.declared.part.Part.{Part}
 use Rattle.source_grammar.specs.declared.part.Part.TheVariants as N
 use Rattle.source_grammar.specs.declared.part.Context.TheVariants as At
@@ -42,729 +42,471 @@ listed Of.FieldPatterns v = v.value
 
 -- in the order of `productions`
 abbrev pub makes : (n : Part) → Makes n (productions n)
+-- nothing
+-- '#' AfterHash
+-- Item Items
 makes N.Program =
-    -- nothing
-    (λ whole. [],
-    -- '#' AfterHash
-    (λ whole _ items. items.value,
-    -- Item Items
-    (items.first_item,
-    tt)))
+    (λ whole. [], (λ whole _ items. items.value, (items.first_item, tt)))
+-- '!' '[' 'allow' '(' List(Names) ']' Program
+-- Attribute Attributed Items
 makes N.AfterHash =
-    -- '!' '[' 'allow' '(' List(Names) ']' Program
-    (λ whole _ _ _ _ _ _ items. items.value,
-    -- Attribute Attributed Items
-    (λ whole _ item items. item.value ∷ items.value,
-    tt))
+    (λ whole _ _ _ _ _ _ items. items.value, (λ whole _ item items. item.value ∷ items.value, tt))
+-- nothing
+-- '#' Attribute Attributed Items
+-- Item Items
 makes N.Items =
-    -- nothing
-    (λ whole. [],
-    -- '#' Attribute Attributed Items
-    (λ whole _ _ item items. item.value ∷ items.value,
-    -- Item Items
-    (items.first_item,
-    tt)))
+    (λ whole. [], (λ whole _ _ item items. item.value ∷ items.value, (items.first_item, tt)))
+-- '[' AttributeName '(' List(Names) ']'
 makes N.Attribute =
-    -- '[' AttributeName '(' List(Names) ']'
-    (λ whole _ _ _ _ _. tt,
-    tt)
+    (λ whole _ _ _ _ _. tt, tt)
+-- '#' Attribute Attributed
+-- 'pub' Declaration
+-- Declaration
 makes N.Attributed =
-    -- '#' Attribute Attributed
-    (λ whole _ _ item. item.value,
-    -- 'pub' Declaration
-    (λ whole _ item. item.value,
-    -- Declaration
-    (λ whole item. item.value,
-    tt)))
+    (λ whole _ _ item. item.value, (λ whole _ item. item.value, (λ whole item. item.value, tt)))
+-- 'pub' Declaration
+-- Declaration
+-- 'use' 'std' '::' 'mem' ';'
 makes N.Item =
-    -- 'pub' Declaration
-    (λ whole _ item. item.value,
-    -- Declaration
-    (λ whole item. item.value,
-    -- 'use' 'std' '::' 'mem' ';'
-    (λ whole _ _ _ _ _. items.use_mem,
-    tt)))
+    (λ whole _ item. item.value, (λ whole item. item.value, (λ whole _ _ _ _ _. items.use_mem, tt)))
+-- 'fn' Identifier Generics '(' List(Parameters) Result Block
+-- 'struct' Identifier TypeParameters StructBody
+-- 'enum' Identifier TypeParameters '{' List(Variants)
 makes N.Declaration =
-    -- 'fn' Identifier Generics '(' List(Parameters) Result Block
-    (items.function,
-    -- 'struct' Identifier TypeParameters StructBody
-    (items.structure,
-    -- 'enum' Identifier TypeParameters '{' List(Variants)
-    (items.enumeration,
-    tt)))
+    (items.function, (items.structure, (items.enumeration, tt)))
+-- nothing
+-- '<' Lifetimes
 makes N.Generics =
-    -- nothing
-    (λ whole. items.no_generics,
-    -- '<' Lifetimes
-    (λ whole _ generics. generics.value,
-    tt))
+    (λ whole. items.no_generics, (λ whole _ generics. generics.value, tt))
+-- '>'
+-- Lifetime MoreLifetimes
+-- Identifier ListRest(TypeNames)
 makes N.Lifetimes =
-    -- '>'
-    (λ whole _. items.no_generics,
-    -- Lifetime MoreLifetimes
-    (items.first_lifetime,
-    -- Identifier ListRest(TypeNames)
-    (items.first_type_parameter,
-    tt)))
+    (λ whole _. items.no_generics, (items.first_lifetime, (items.first_type_parameter, tt)))
+-- '>'
+-- ',' Lifetimes
 makes N.MoreLifetimes =
-    -- '>'
-    (λ whole _. items.no_generics,
-    -- ',' Lifetimes
-    (λ whole _ generics. generics.value,
-    tt))
+    (λ whole _. items.no_generics, (λ whole _ generics. generics.value, tt))
+-- nothing
+-- '<' List(TypeNames)
 makes N.TypeParameters =
-    -- nothing
-    (λ whole. [],
-    -- '<' List(TypeNames)
-    (λ whole _ names. names.value,
-    tt))
+    (λ whole. [], (λ whole _ names. names.value, tt))
+-- 'mut' Identifier ':' Type
+-- Identifier ':' Type
 makes N.Parameter =
-    -- 'mut' Identifier ':' Type
-    (λ whole _ name _ ty. items.parameter true name ty,
-    -- Identifier ':' Type
-    (λ whole name _ ty. items.parameter false name ty,
-    tt))
+    (λ whole _ name _ ty. items.parameter true name ty, (λ whole name _ ty. items.parameter false name ty, tt))
+-- nothing
+-- '->' Type
 makes N.Result =
-    -- nothing
-    (λ whole. None,
-    -- '->' Type
-    (λ whole _ ty. Some ty.value,
-    tt))
+    (λ whole. None, (λ whole _ ty. Some ty.value, tt))
+-- '{' List(Fields)
+-- '(' List(TupleFields) ';'
+-- ';'
 makes N.StructBody =
-    -- '{' List(Fields)
-    (items.braces,
-    -- '(' List(TupleFields) ';'
-    (items.brackets,
-    -- ';'
-    (λ whole _. items.no_fields,
-    tt)))
+    (items.braces, (items.brackets, (λ whole _. items.no_fields, tt)))
+-- 'pub' Identifier ':' Type
+-- Identifier ':' Type
 makes N.Field =
-    -- 'pub' Identifier ':' Type
-    (λ whole _ name _ ty. items.field name ty,
-    -- Identifier ':' Type
-    (λ whole name _ ty. items.field name ty,
-    tt))
+    (λ whole _ name _ ty. items.field name ty, (λ whole name _ ty. items.field name ty, tt))
+-- 'pub' Type
+-- Type
 makes N.TupleField =
-    -- 'pub' Type
-    (λ whole _ ty. ty.value,
-    -- Type
-    (λ whole ty. ty.value,
-    tt))
+    (λ whole _ ty. ty.value, (λ whole ty. ty.value, tt))
+-- Identifier VariantBody
 makes N.Variant =
-    -- Identifier VariantBody
-    (items.variant,
-    tt)
+    (items.variant, tt)
+-- nothing
+-- '(' List(Types)
 makes N.VariantBody =
-    -- nothing
-    (λ whole. [],
-    -- '(' List(Types)
-    (λ whole _ tys. tys.value,
-    tt))
+    (λ whole. [], (λ whole _ tys. tys.value, tt))
+-- closing(x)
+-- item(x) ListRest(x)
 makes (N.List x) =
-    -- closing(x)
-    (λ whole _. [],
-    -- item(x) ListRest(x)
-    (λ whole one more. listed x one ∷ more.value,
-    tt))
+    (λ whole _. [], (λ whole one more. listed x one ∷ more.value, tt))
+-- closing(x)
+-- ',' List(x)
 makes (N.ListRest x) =
-    -- closing(x)
-    (λ whole _. [],
-    -- ',' List(x)
-    (λ whole _ more. more.value,
-    tt))
+    (λ whole _. [], (λ whole _ more. more.value, tt))
+-- IntWord
+-- 'bool'
+-- '(' AfterTypeOpen
+-- '&' BorrowLifetime BorrowMut Type
+-- 'Box' '<' Type TypesEnd
+-- Identifier TypeArguments
 makes N.Type =
-    -- IntWord
-    (types.int_type,
-    -- 'bool'
-    (λ whole word. t.bool whole,
-    -- '(' AfterTypeOpen
-    (types.bracketed_type,
-    -- '&' BorrowLifetime BorrowMut Type
-    (types.reference_type,
-    -- 'Box' '<' Type TypesEnd
-    (types.boxed_type,
-    -- Identifier TypeArguments
-    (types.named_type,
-    tt))))))
+    (types.int_type, (λ whole word. t.bool whole, (types.bracketed_type, (types.reference_type, (types.boxed_type, (types.named_type, tt))))))
+-- nothing
+-- AnyLifetime
 makes N.BorrowLifetime =
-    -- nothing
-    (λ whole. t.elided,
-    -- AnyLifetime
-    (λ whole life. lifetime life,
-    tt))
+    (λ whole. t.elided, (λ whole life. lifetime life, tt))
+-- nothing
+-- 'mut'
 makes N.BorrowMut =
-    -- nothing
-    (λ whole. false,
-    -- 'mut'
-    (λ whole _. true,
-    tt))
+    (λ whole. false, (λ whole _. true, tt))
+-- nothing
+-- '<' List(TypesInAngles)
 makes N.TypeArguments =
-    -- nothing
-    (λ whole. [],
-    -- '<' List(TypesInAngles)
-    (λ whole _ tys. tys.value,
-    tt))
+    (λ whole. [], (λ whole _ tys. tys.value, tt))
+-- ')'
+-- Type AfterType
 makes N.AfterTypeOpen =
-    -- ')'
-    (λ whole _. [],
-    -- Type AfterType
-    (λ whole ty more. ty.value ∷ more.value,
-    tt))
+    (λ whole _. [], (λ whole ty more. ty.value ∷ more.value, tt))
+-- ')'
+-- ',' Type ListRest(Types)
 makes N.AfterType =
-    -- ')'
-    (λ whole _. [],
-    -- ',' Type ListRest(Types)
-    (λ whole _ ty more. ty.value ∷ more.value,
-    tt))
+    (λ whole _. [], (λ whole _ ty more. ty.value ∷ more.value, tt))
+-- '{' Statements
 makes N.Block =
-    -- '{' Statements
-    (blocks.block,
-    tt)
+    (blocks.block, tt)
+-- '}'
+-- MoreStatements
 makes N.Statements =
-    -- '}'
-    (blocks.ended,
-    -- MoreStatements
-    (λ whole body. body.value,
-    tt))
+    (blocks.ended, (λ whole body. body.value, tt))
+-- ';' Statements
+-- 'let' Pattern LetType LetValue ';' Statements
+-- BlockLike AfterBlockLike
+-- LeadingExpression AfterExpression
 makes N.MoreStatements =
-    -- ';' Statements
-    (λ whole _ body. body.value,
-    -- 'let' Pattern LetType LetValue ';' Statements
-    (blocks.let_statement,
-    -- BlockLike AfterBlockLike
-    (blocks.block_like_first,
-    -- LeadingExpression AfterExpression
-    (blocks.expression_first,
-    tt))))
+    (λ whole _ body. body.value, (blocks.let_statement, (blocks.block_like_first, (blocks.expression_first, tt))))
+-- '}'
+-- MoreStatements
 makes N.AfterBlockLike =
-    -- '}'
-    (λ whole _. None,
-    -- MoreStatements
-    (λ whole body. Some body.value,
-    tt))
+    (λ whole _. None, (λ whole body. Some body.value, tt))
+-- '}'
+-- ';' Statements
 makes N.AfterExpression =
-    -- '}'
-    (λ whole _. None,
-    -- ';' Statements
-    (λ whole _ body. Some body.value,
-    tt))
+    (λ whole _. None, (λ whole _ body. Some body.value, tt))
+-- nothing
+-- ':' Type
 makes N.LetType =
-    -- nothing
-    (λ whole. None,
-    -- ':' Type
-    (λ whole _ ty. Some ty.value,
-    tt))
+    (λ whole. None, (λ whole _ ty. Some ty.value, tt))
+-- nothing
+-- '=' Expression(Free)
 makes N.LetValue =
-    -- nothing
-    (λ whole. None,
-    -- '=' Expression(Free)
-    (λ whole _ value. Some value.value,
-    tt))
+    (λ whole. None, (λ whole _ value. Some value.value, tt))
+-- Block
+-- If
+-- 'match' Expression(Condition) '{' Arms
+-- 'loop' Block
+-- 'while' AfterWhile
 makes N.BlockLike =
-    -- Block
-    (blocks.inner_block,
-    -- If
-    (λ whole e. e.value,
-    -- 'match' Expression(Condition) '{' Arms
-    (blocks.match_expression,
-    -- 'loop' Block
-    (blocks.loop_expression,
-    -- 'while' AfterWhile
-    (blocks.while_expression,
-    tt)))))
+    (blocks.inner_block, (λ whole e. e.value, (blocks.match_expression, (blocks.loop_expression, (blocks.while_expression, tt)))))
+-- Expression(Condition) Block
+-- 'let' Pattern '=' Expression(Condition) Block
 makes N.AfterWhile =
-    -- Expression(Condition) Block
-    (λ whole e body. blocks.holds e body None,
-    -- 'let' Pattern '=' Expression(Condition) Block
-    (λ whole _ pat _ e body. blocks.matches pat e body None,
-    tt))
+    (λ whole e body. blocks.holds e body None, (λ whole _ pat _ e body. blocks.matches pat e body None, tt))
+-- 'if' AfterIf
 makes N.If =
-    -- 'if' AfterIf
-    (blocks.if_expression,
-    tt)
+    (blocks.if_expression, tt)
+-- Expression(Condition) Block Else
+-- 'let' Pattern '=' Expression(Condition) Block Else
 makes N.AfterIf =
-    -- Expression(Condition) Block Else
-    (λ whole e body other. blocks.holds e body other.value,
-    -- 'let' Pattern '=' Expression(Condition) Block Else
-    (λ whole _ pat _ e body other. blocks.matches pat e body other.value,
-    tt))
+    (λ whole e body other. blocks.holds e body other.value, (λ whole _ pat _ e body other. blocks.matches pat e body other.value, tt))
+-- nothing
+-- 'else' AfterElse
 makes N.Else =
-    -- nothing
-    (λ whole. None,
-    -- 'else' AfterElse
-    (λ whole _ e. Some e.value,
-    tt))
+    (λ whole. None, (λ whole _ e. Some e.value, tt))
+-- If
+-- Block
 makes N.AfterElse =
-    -- If
-    (λ whole e. e.value,
-    -- Block
-    (blocks.inner_block,
-    tt))
+    (λ whole e. e.value, (blocks.inner_block, tt))
+-- '}'
+-- Pattern '=>' ArmBody
 makes N.Arms =
-    -- '}'
-    (λ whole _. [],
-    -- Pattern '=>' ArmBody
-    (blocks.arm,
-    tt))
+    (λ whole _. [], (blocks.arm, tt))
+-- BlockLike AfterBlockArm
+-- LeadingExpression AfterArm
 makes N.ArmBody =
-    -- BlockLike AfterBlockArm
-    (blocks.arm_body,
-    -- LeadingExpression AfterArm
-    (blocks.arm_body,
-    tt))
+    (blocks.arm_body, (blocks.arm_body, tt))
+-- ',' Arms
+-- '}'
+-- Pattern '=>' ArmBody
 makes N.AfterBlockArm =
-    -- ',' Arms
-    (λ whole _ arms. arms.value,
-    -- '}'
-    (λ whole _. [],
-    -- Pattern '=>' ArmBody
-    (blocks.arm,
-    tt)))
+    (λ whole _ arms. arms.value, (λ whole _. [], (blocks.arm, tt)))
+-- ',' Arms
+-- '}'
 makes N.AfterArm =
-    -- ',' Arms
-    (λ whole _ arms. arms.value,
-    -- '}'
-    (λ whole _. [],
-    tt))
+    (λ whole _ arms. arms.value, (λ whole _. [], tt))
+-- 'return' Expression(Condition)
+-- 'break' Expression(Condition)
+-- 'continue'
+-- Level(Or, Condition) MoreAssign(Condition)
 makes (N.Expression At.Condition) =
-    -- 'return' Expression(Condition)
-    (exprs.returned_value,
-    -- 'break' Expression(Condition)
-    (exprs.broken_value,
-    -- 'continue'
-    (λ whole _. s.go_on whole,
-    -- Level(Or, Condition) MoreAssign(Condition)
-    (operators.grouped,
-    tt))))
+    (exprs.returned_value, (exprs.broken_value, (λ whole _. s.go_on whole, (operators.grouped, tt))))
+-- 'return' Operand
+-- 'break' Operand
+-- 'continue'
+-- Level(Or, Free) MoreAssign(Free)
 makes (N.Expression At.Free) =
-    -- 'return' Operand
-    (exprs.returned,
-    -- 'break' Operand
-    (exprs.broken,
-    -- 'continue'
-    (λ whole _. s.go_on whole,
-    -- Level(Or, Free) MoreAssign(Free)
-    (operators.grouped,
-    tt))))
+    (exprs.returned, (exprs.broken, (λ whole _. s.go_on whole, (operators.grouped, tt))))
+-- 'return' Operand
+-- 'break' Operand
+-- 'continue'
+-- LeadingLevel(Or) MoreAssign(Free)
 makes N.LeadingExpression =
-    -- 'return' Operand
-    (exprs.returned,
-    -- 'break' Operand
-    (exprs.broken,
-    -- 'continue'
-    (λ whole _. s.go_on whole,
-    -- LeadingLevel(Or) MoreAssign(Free)
-    (operators.grouped,
-    tt))))
+    (exprs.returned, (exprs.broken, (λ whole _. s.go_on whole, (operators.grouped, tt))))
+-- nothing
+-- Expression(Free)
 makes N.Operand =
-    -- nothing
-    (λ whole. None,
-    -- Expression(Free)
-    (λ whole e. Some e.value,
-    tt))
+    (λ whole. None, (λ whole e. Some e.value, tt))
+-- nothing
+-- AssignOp Level(Or, m)
 makes (N.MoreAssign m) =
-    -- nothing
-    (λ whole. [],
-    -- AssignOp Level(Or, m)
-    (operators.one_operation,
-    tt))
+    (λ whole. [], (operators.one_operation, tt))
+-- operand(l, m) More(l, m)
 makes (N.Level l m) =
-    -- operand(l, m) More(l, m)
-    (λ whole first more. operators.grouped whole (operators.operand_of l m first) more,
-    tt)
+    (λ whole first more. operators.grouped whole (operators.operand_of l m first) more, tt)
+-- leading(l) More(l, Free)
 makes (N.LeadingLevel l) =
-    -- leading(l) More(l, Free)
-    (λ whole first more. operators.grouped whole (operators.leading_of l first) more,
-    tt)
+    (λ whole first more. operators.grouped whole (operators.leading_of l first) more, tt)
+-- nothing
+-- operator(Or) operand(Or, m) More(Or, m)
 makes (N.More L.Or m) =
-    -- nothing
-    (λ whole. [],
-    -- operator(Or) operand(Or, m) More(Or, m)
-    (operators.next_operation,
-    tt))
+    (λ whole. [], (operators.next_operation, tt))
+-- nothing
+-- operator(And) operand(And, m) More(And, m)
 makes (N.More L.And m) =
-    -- nothing
-    (λ whole. [],
-    -- operator(And) operand(And, m) More(And, m)
-    (operators.next_operation,
-    tt))
+    (λ whole. [], (operators.next_operation, tt))
+-- nothing
+-- operator(Compare) operand(Compare, m)
 makes (N.More L.Compare m) =
-    -- nothing
-    (λ whole. [],
-    -- operator(Compare) operand(Compare, m)
-    (operators.one_operation,
-    tt))
+    (λ whole. [], (operators.one_operation, tt))
+-- nothing
+-- operator(BitOr) operand(BitOr, m) More(BitOr, m)
 makes (N.More L.BitOr m) =
-    -- nothing
-    (λ whole. [],
-    -- operator(BitOr) operand(BitOr, m) More(BitOr, m)
-    (operators.next_operation,
-    tt))
+    (λ whole. [], (operators.next_operation, tt))
+-- nothing
+-- operator(Xor) operand(Xor, m) More(Xor, m)
 makes (N.More L.Xor m) =
-    -- nothing
-    (λ whole. [],
-    -- operator(Xor) operand(Xor, m) More(Xor, m)
-    (operators.next_operation,
-    tt))
+    (λ whole. [], (operators.next_operation, tt))
+-- nothing
+-- operator(BitAnd) operand(BitAnd, m) More(BitAnd, m)
 makes (N.More L.BitAnd m) =
-    -- nothing
-    (λ whole. [],
-    -- operator(BitAnd) operand(BitAnd, m) More(BitAnd, m)
-    (operators.next_operation,
-    tt))
+    (λ whole. [], (operators.next_operation, tt))
+-- nothing
+-- operator(Shift) operand(Shift, m) More(Shift, m)
 makes (N.More L.Shift m) =
-    -- nothing
-    (λ whole. [],
-    -- operator(Shift) operand(Shift, m) More(Shift, m)
-    (operators.next_operation,
-    tt))
+    (λ whole. [], (operators.next_operation, tt))
+-- nothing
+-- operator(Sum) operand(Sum, m) More(Sum, m)
 makes (N.More L.Sum m) =
-    -- nothing
-    (λ whole. [],
-    -- operator(Sum) operand(Sum, m) More(Sum, m)
-    (operators.next_operation,
-    tt))
+    (λ whole. [], (operators.next_operation, tt))
+-- nothing
+-- operator(Product) operand(Product, m) More(Product, m)
 makes (N.More L.Product m) =
-    -- nothing
-    (λ whole. [],
-    -- operator(Product) operand(Product, m) More(Product, m)
-    (operators.next_operation,
-    tt))
+    (λ whole. [], (operators.next_operation, tt))
+-- Unary(m) MoreCasts
 makes (N.Cast m) =
-    -- Unary(m) MoreCasts
-    (operators.casts,
-    tt)
+    (operators.casts, tt)
+-- LeadingUnary MoreCasts
 makes N.LeadingCast =
-    -- LeadingUnary MoreCasts
-    (operators.casts,
-    tt)
+    (operators.casts, tt)
+-- nothing
+-- 'as' IntWord MoreCasts
 makes N.MoreCasts =
-    -- nothing
-    (λ whole. [],
-    -- 'as' IntWord MoreCasts
-    (operators.one_cast,
-    tt))
+    (λ whole. [], (operators.one_cast, tt))
+-- '-' Unary(m)
+-- '!' Unary(m)
+-- '*' Unary(m)
+-- '&' Borrowed(m)
+-- Core(m) Postfix
+-- BlockLike Postfix
 makes (N.Unary m) =
-    -- '-' Unary(m)
-    (operators.minus,
-    -- '!' Unary(m)
-    (operators.negation,
-    -- '*' Unary(m)
-    (operators.dereference,
-    -- '&' Borrowed(m)
-    (operators.borrow,
-    -- Core(m) Postfix
-    (operators.with_fields,
-    -- BlockLike Postfix
-    (operators.with_fields,
-    tt))))))
+    (operators.minus, (operators.negation, (operators.dereference, (operators.borrow, (operators.with_fields, (operators.with_fields, tt))))))
+-- '-' Unary(Free)
+-- '!' Unary(Free)
+-- '*' Unary(Free)
+-- '&' Borrowed(Free)
+-- Core(Free) Postfix
 makes N.LeadingUnary =
-    -- '-' Unary(Free)
-    (operators.minus,
-    -- '!' Unary(Free)
-    (operators.negation,
-    -- '*' Unary(Free)
-    (operators.dereference,
-    -- '&' Borrowed(Free)
-    (operators.borrow,
-    -- Core(Free) Postfix
-    (operators.with_fields,
-    tt)))))
+    (operators.minus, (operators.negation, (operators.dereference, (operators.borrow, (operators.with_fields, tt)))))
+-- 'mut' Unary(m)
+-- Unary(m)
 makes (N.Borrowed m) =
-    -- 'mut' Unary(m)
-    (λ whole _ e. operators.borrowed true e,
-    -- Unary(m)
-    (λ whole e. operators.borrowed false e,
-    tt))
+    (λ whole _ e. operators.borrowed true e, (λ whole e. operators.borrowed false e, tt))
+-- nothing
+-- '.' FieldName Postfix
 makes N.Postfix =
-    -- nothing
-    (λ whole. [],
-    -- '.' FieldName Postfix
-    (λ whole _ name more. name.value ∷ more.value,
-    tt))
+    (λ whole. [], (λ whole _ name more. name.value ∷ more.value, tt))
+-- Identifier
+-- Digits
 makes N.FieldName =
-    -- Identifier
-    (λ whole name. ident name,
-    -- Digits
-    (λ whole digits. ident digits,
-    tt))
+    (λ whole name. ident name, (λ whole digits. ident digits, tt))
+-- Integer
+-- BoolLiteral
+-- '(' AfterOpen
+-- PathName AfterName(m)
+-- 'mem' AfterMem(m)
+-- 'std' AfterStd(m)
+-- 'Box' '::' 'new' AfterPath
+-- PanicName AfterPanic(m)
+-- 'assert' AfterAssert(m)
 makes (N.Core m) =
-    -- Integer
-    (exprs.number_expression,
-    -- BoolLiteral
-    (exprs.truth_expression,
-    -- '(' AfterOpen
-    (exprs.bracketed,
-    -- PathName AfterName(m)
-    (paths.named,
-    -- 'mem' AfterMem(m)
-    (paths.named,
-    -- 'std' AfterStd(m)
-    (paths.named,
-    -- 'Box' '::' 'new' AfterPath
-    (paths.box_new,
-    -- PanicName AfterPanic(m)
-    (paths.named,
-    -- 'assert' AfterAssert(m)
-    (paths.named,
-    tt)))))))))
+    (exprs.number_expression, (exprs.truth_expression, (exprs.bracketed, (paths.named, (paths.named, (paths.named, (paths.box_new, (paths.named, (paths.named, tt)))))))))
+-- ')'
+-- Expression(Free) AfterFirst
 makes N.AfterOpen =
-    -- ')'
-    (λ whole _. [],
-    -- Expression(Free) AfterFirst
-    (λ whole e more. e.value ∷ more.value,
-    tt))
+    (λ whole _. [], (λ whole e more. e.value ∷ more.value, tt))
+-- ')'
+-- ',' Expression(Free) ListRest(Arguments)
 makes N.AfterFirst =
-    -- ')'
-    (λ whole _. [],
-    -- ',' Expression(Free) ListRest(Arguments)
-    (λ whole _ e more. e.value ∷ more.value,
-    tt))
+    (λ whole _. [], (λ whole _ e more. e.value ∷ more.value, tt))
+-- Identifier InitialValue
 makes N.Initial =
-    -- Identifier InitialValue
-    (exprs.initial,
-    tt)
+    (exprs.initial, tt)
+-- nothing
+-- ':' Expression(Free)
 makes N.InitialValue =
-    -- nothing
-    (λ whole. None,
-    -- ':' Expression(Free)
-    (λ whole _ e. Some e.value,
-    tt))
+    (λ whole. None, (λ whole _ e. Some e.value, tt))
+-- nothing
+-- NameMore(m)
 makes (N.AfterName m) =
-    -- nothing
-    (λ whole. paths.alone,
-    -- NameMore(m)
-    (λ whole rest. rest.value,
-    tt))
+    (λ whole. paths.alone, (λ whole rest. rest.value, tt))
+-- nothing
+-- NameMore(m)
+-- '!' '(' Message
 makes (N.AfterPanic m) =
-    -- nothing
-    (λ whole. paths.alone,
-    -- NameMore(m)
-    (λ whole rest. rest.value,
-    -- '!' '(' Message
-    (λ whole _ _ _. paths.panics,
-    tt)))
+    (λ whole. paths.alone, (λ whole rest. rest.value, (λ whole _ _ _. paths.panics, tt)))
+-- nothing
+-- NameMore(m)
+-- '!' '(' Expression(Free) AssertEnd
 makes (N.AfterAssert m) =
-    -- nothing
-    (λ whole. paths.alone,
-    -- NameMore(m)
-    (λ whole rest. rest.value,
-    -- '!' '(' Expression(Free) AssertEnd
-    (paths.asserts,
-    tt)))
+    (λ whole. paths.alone, (λ whole rest. rest.value, (paths.asserts, tt)))
+-- nothing
+-- Applied(m)
+-- '::' AfterMemColons(m)
 makes (N.AfterMem m) =
-    -- nothing
-    (λ whole. paths.alone,
-    -- Applied(m)
-    (paths.applied,
-    -- '::' AfterMemColons(m)
-    (λ whole _ rest. rest.value,
-    tt)))
+    (λ whole. paths.alone, (paths.applied, (λ whole _ rest. rest.value, tt)))
+-- nothing
+-- Applied(m)
+-- '::' AfterStdColons(m)
 makes (N.AfterStd m) =
-    -- nothing
-    (λ whole. paths.alone,
-    -- Applied(m)
-    (paths.applied,
-    -- '::' AfterStdColons(m)
-    (λ whole _ rest. rest.value,
-    tt)))
+    (λ whole. paths.alone, (paths.applied, (λ whole _ rest. rest.value, tt)))
+-- Applied(m)
+-- '::' AfterColons(m)
 makes (N.NameMore m) =
-    -- Applied(m)
-    (paths.applied,
-    -- '::' AfterColons(m)
-    (λ whole _ rest. rest.value,
-    tt))
+    (paths.applied, (λ whole _ rest. rest.value, tt))
+-- '(' List(Arguments)
+-- '{' List(Initials)
 makes (N.Applied At.Free) =
-    -- '(' List(Arguments)
-    (paths.arguments,
-    -- '{' List(Initials)
-    (paths.fields,
-    tt))
+    (paths.arguments, (paths.fields, tt))
+-- '(' List(Arguments)
 makes (N.Applied At.Condition) =
-    -- '(' List(Arguments)
-    (paths.arguments,
-    tt)
+    (paths.arguments, tt)
+-- '<' List(TypesInAngles) AfterTurbo(m)
+-- Identifier AfterPath
 makes (N.AfterColons m) =
-    -- '<' List(TypesInAngles) AfterTurbo(m)
-    (paths.with_types,
-    -- Identifier AfterPath
-    (paths.second_name,
-    tt))
+    (paths.with_types, (paths.second_name, tt))
+-- '<' List(TypesInAngles) AfterTurbo(m)
+-- SwapName AfterPath
+-- NotSwap AfterPath
 makes (N.AfterMemColons m) =
-    -- '<' List(TypesInAngles) AfterTurbo(m)
-    (paths.with_types,
-    -- SwapName AfterPath
-    (paths.built_in_name,
-    -- NotSwap AfterPath
-    (paths.second_name,
-    tt)))
+    (paths.with_types, (paths.built_in_name, (paths.second_name, tt)))
+-- '<' List(TypesInAngles) AfterTurbo(m)
+-- 'mem' AfterStdMem
+-- NotMem AfterPath
 makes (N.AfterStdColons m) =
-    -- '<' List(TypesInAngles) AfterTurbo(m)
-    (paths.with_types,
-    -- 'mem' AfterStdMem
-    (paths.std_mem,
-    -- NotMem AfterPath
-    (paths.second_name,
-    tt)))
+    (paths.with_types, (paths.std_mem, (paths.second_name, tt)))
+-- nothing
+-- '(' List(Arguments)
+-- '::' AfterStdMemColons
 makes N.AfterStdMem =
-    -- nothing
-    (λ whole. in_mem.Second paths.not_called,
-    -- '(' List(Arguments)
-    (λ whole bracket exprs. in_mem.Second (paths.plain_call bracket exprs),
-    -- '::' AfterStdMemColons
-    (λ whole _ rest. rest.value,
-    tt)))
+    (λ whole. in_mem.Second paths.not_called, (λ whole bracket exprs. in_mem.Second (paths.plain_call bracket exprs), (λ whole _ rest. rest.value, tt)))
+-- '<' List(TypesInAngles) '(' List(Arguments)
+-- SwapName AfterPath
 makes N.AfterStdMemColons =
-    -- '<' List(TypesInAngles) '(' List(Arguments)
-    (λ whole _ tys _ exprs. in_mem.Second (paths.call_with_types tys exprs),
-    -- SwapName AfterPath
-    (paths.std_built_in,
-    tt))
+    (λ whole _ tys _ exprs. in_mem.Second (paths.call_with_types tys exprs), (paths.std_built_in, tt))
+-- Applied(m)
+-- '::' Identifier AfterPath
 makes (N.AfterTurbo m) =
-    -- Applied(m)
-    (λ whole more. more.value,
-    -- '::' Identifier AfterPath
-    (paths.later_name,
-    tt))
+    (λ whole more. more.value, (paths.later_name, tt))
+-- nothing
+-- '(' List(Arguments)
+-- '::' '<' List(TypesInAngles) '(' List(Arguments)
 makes N.AfterPath =
-    -- nothing
-    (λ whole. paths.not_called,
-    -- '(' List(Arguments)
-    (λ whole bracket exprs. paths.plain_call bracket exprs,
-    -- '::' '<' List(TypesInAngles) '(' List(Arguments)
-    (λ whole _ _ tys _ exprs. paths.call_with_types tys exprs,
-    tt)))
+    (λ whole. paths.not_called, (λ whole bracket exprs. paths.plain_call bracket exprs, (λ whole _ _ tys _ exprs. paths.call_with_types tys exprs, tt)))
+-- ')'
+-- Text ')'
 makes N.Message =
-    -- ')'
-    (λ whole _. tt,
-    -- Text ')'
-    (λ whole _ _. tt,
-    tt))
+    (λ whole _. tt, (λ whole _ _. tt, tt))
+-- ')'
+-- ',' AfterAssertComma
 makes N.AssertEnd =
-    -- ')'
-    (λ whole _. tt,
-    -- ',' AfterAssertComma
-    (λ whole _ _. tt,
-    tt))
+    (λ whole _. tt, (λ whole _ _. tt, tt))
+-- ')'
+-- Text AfterMessage
 makes N.AfterAssertComma =
-    -- ')'
-    (λ whole _. tt,
-    -- Text AfterMessage
-    (λ whole _ _. tt,
-    tt))
+    (λ whole _. tt, (λ whole _ _. tt, tt))
+-- ')'
+-- ',' ')'
 makes N.AfterMessage =
-    -- ')'
-    (λ whole _. tt,
-    -- ',' ')'
-    (λ whole _ _. tt,
-    tt))
+    (λ whole _. tt, (λ whole _ _. tt, tt))
+-- '_'
+-- 'mut' Identifier
+-- '-' Integer
+-- Integer
+-- BoolLiteral
+-- '(' AfterPatternOpen
+-- PatternName AfterPatternName
+-- 'mem' AfterPatternMem
+-- 'std' AfterPatternStd
+-- 'Box' '::' 'new' PatternParts
 makes N.Pattern =
-    -- '_'
-    (λ whole _. p.wild whole,
-    -- 'mut' Identifier
-    (patterns.binding,
-    -- '-' Integer
-    (patterns.negative_pattern,
-    -- Integer
-    (patterns.number_pattern,
-    -- BoolLiteral
-    (patterns.truth_pattern,
-    -- '(' AfterPatternOpen
-    (patterns.bracketed_pattern,
-    -- PatternName AfterPatternName
-    (patterns.named_pattern,
-    -- 'mem' AfterPatternMem
-    (patterns.named_pattern,
-    -- 'std' AfterPatternStd
-    (patterns.named_pattern,
-    -- 'Box' '::' 'new' PatternParts
-    (patterns.box_new_pattern,
-    tt))))))))))
+    (λ whole _. p.wild whole, (patterns.binding, (patterns.negative_pattern, (patterns.number_pattern, (patterns.truth_pattern, (patterns.bracketed_pattern, (patterns.named_pattern, (patterns.named_pattern, (patterns.named_pattern, (patterns.box_new_pattern, tt))))))))))
+-- ')'
+-- Pattern AfterPattern
 makes N.AfterPatternOpen =
-    -- ')'
-    (λ whole _. [],
-    -- Pattern AfterPattern
-    (λ whole pat more. pat.value ∷ more.value,
-    tt))
+    (λ whole _. [], (λ whole pat more. pat.value ∷ more.value, tt))
+-- ')'
+-- ',' Pattern ListRest(Patterns)
 makes N.AfterPattern =
-    -- ')'
-    (λ whole _. [],
-    -- ',' Pattern ListRest(Patterns)
-    (λ whole _ pat more. pat.value ∷ more.value,
-    tt))
+    (λ whole _. [], (λ whole _ pat more. pat.value ∷ more.value, tt))
+-- Identifier FieldPatternValue
 makes N.FieldPattern =
-    -- Identifier FieldPatternValue
-    (patterns.field_pattern,
-    tt)
+    (patterns.field_pattern, tt)
+-- nothing
+-- ':' Pattern
 makes N.FieldPatternValue =
-    -- nothing
-    (λ whole. None,
-    -- ':' Pattern
-    (λ whole _ pat. Some pat.value,
-    tt))
+    (λ whole. None, (λ whole _ pat. Some pat.value, tt))
+-- nothing
+-- GivenParts
 makes N.PatternParts =
-    -- nothing
-    (λ whole. given.Placed [],
-    -- GivenParts
-    (λ whole parts. parts.value,
-    tt))
+    (λ whole. given.Placed [], (λ whole parts. parts.value, tt))
+-- '(' List(Patterns)
+-- '{' List(FieldPatterns)
 makes N.GivenParts =
-    -- '(' List(Patterns)
-    (λ whole _ pats. given.Placed pats.value,
-    -- '{' List(FieldPatterns)
-    (λ whole _ fields. given.Named fields.value,
-    tt))
+    (λ whole _ pats. given.Placed pats.value, (λ whole _ fields. given.Named fields.value, tt))
+-- nothing
+-- GivenParts
+-- '::' AfterPatternColons
 makes N.AfterPatternName =
-    -- nothing
-    (λ whole. name.Nothing,
-    -- GivenParts
-    (λ whole parts. name.Parts parts.value,
-    -- '::' AfterPatternColons
-    (λ whole _ rest. rest.value,
-    tt)))
+    (λ whole. name.Nothing, (λ whole parts. name.Parts parts.value, (λ whole _ rest. rest.value, tt)))
+-- nothing
+-- GivenParts
+-- '::' AfterPatternMemColons
 makes N.AfterPatternMem =
-    -- nothing
-    (λ whole. name.Nothing,
-    -- GivenParts
-    (λ whole parts. name.Parts parts.value,
-    -- '::' AfterPatternMemColons
-    (λ whole _ rest. rest.value,
-    tt)))
+    (λ whole. name.Nothing, (λ whole parts. name.Parts parts.value, (λ whole _ rest. rest.value, tt)))
+-- nothing
+-- GivenParts
+-- '::' AfterPatternStdColons
 makes N.AfterPatternStd =
-    -- nothing
-    (λ whole. name.Nothing,
-    -- GivenParts
-    (λ whole parts. name.Parts parts.value,
-    -- '::' AfterPatternStdColons
-    (λ whole _ rest. rest.value,
-    tt)))
+    (λ whole. name.Nothing, (λ whole parts. name.Parts parts.value, (λ whole _ rest. rest.value, tt)))
+-- '<' List(TypesInAngles) '::' Identifier PatternParts
+-- Identifier PatternParts
 makes N.AfterPatternColons =
-    -- '<' List(TypesInAngles) '::' Identifier PatternParts
-    (patterns.second_after_types,
-    -- Identifier PatternParts
-    (patterns.second_name,
-    tt))
+    (patterns.second_after_types, (patterns.second_name, tt))
+-- '<' List(TypesInAngles) '::' Identifier PatternParts
+-- SwapName PatternParts
+-- NotSwap PatternParts
 makes N.AfterPatternMemColons =
-    -- '<' List(TypesInAngles) '::' Identifier PatternParts
-    (patterns.second_after_types,
-    -- SwapName PatternParts
-    (patterns.built_in_name,
-    -- NotSwap PatternParts
-    (patterns.second_name,
-    tt)))
+    (patterns.second_after_types, (patterns.built_in_name, (patterns.second_name, tt)))
+-- '<' List(TypesInAngles) '::' Identifier PatternParts
+-- 'mem' AfterPatternStdMem
+-- NotMem PatternParts
 makes N.AfterPatternStdColons =
-    -- '<' List(TypesInAngles) '::' Identifier PatternParts
-    (patterns.second_after_types,
-    -- 'mem' AfterPatternStdMem
-    (patterns.std_mem_name,
-    -- NotMem PatternParts
-    (patterns.second_name,
-    tt)))
+    (patterns.second_after_types, (patterns.std_mem_name, (patterns.second_name, tt)))
+-- nothing
+-- GivenParts
+-- '::' SwapName PatternParts
 makes N.AfterPatternStdMem =
-    -- nothing
-    (λ whole. after_mem.Second (given.Placed []),
-    -- GivenParts
-    (λ whole parts. after_mem.Second parts.value,
-    -- '::' SwapName PatternParts
-    (patterns.std_built_in_name,
-    tt)))
+    (λ whole. after_mem.Second (given.Placed []), (λ whole parts. after_mem.Second parts.value, (patterns.std_built_in_name, tt)))

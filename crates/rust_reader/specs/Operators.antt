@@ -18,7 +18,7 @@ use Rattle.rust_reader.specs.declared.operations.Operation.{Operation}
 use Rattle.rust_reader.specs.declared.operations.Borrowed.{Borrowed}
 use Rattle.rust_reader.specs.declared.spanned.Spanned.{Spanned}
 use Rattle.rust_reader.specs.Spans.{from_to, span_of, same_span}
-use Rattle.rust_reader.specs.Says.{ident, int_type_in}
+use Rattle.rust_reader.specs.Says.{int_type_in}
 use Rattle.rust_reader.specs.Carriers.{Carried}
 
 -- the node of an operator; what is none of these is `=`

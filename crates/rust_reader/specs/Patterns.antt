@@ -1,7 +1,6 @@
 -- How patterns are read.
 use Rattle.std.specs.Prelude.{ℕ, Bool, true, false, List, [], ◌∷◌, Option, Some, None}
 use Rattle.aen_base.specs.declared.span.Span.{Span}
-use Rattle.source_grammar.specs.declared.class.Class.{Class}
 use Rattle.source_grammar.specs.declared.lexeme.Lexeme.{Lexeme}
 use Rattle.aen_base.specs.declared.int_ty.IntTy.{IntTy}
 use Rattle.rust_ast.specs.declared.ident.Ident.{Ident}

@@ -8,7 +8,6 @@ use Rattle.source_grammar.specs.declared.terminal.Terminal.{Terminal}
 use Rattle.source_grammar.specs.declared.part.Part.{Part}
 use Rattle.source_grammar.specs.declared.part.Part.TheVariants as N
 use Rattle.rust_ast.specs.declared.program.Program.{Program}
-use Rattle.rust_reader.specs.declared.spanned.Spanned.{Spanned}
 use Rattle.rust_reader.specs.Carriers.{Carrier, made_by}
 use Rattle.rust_reader.specs.Makes.{makes}
 

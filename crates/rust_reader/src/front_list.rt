@@ -40,7 +40,9 @@ impl<T> FrontList<T> {
     pub fn into_list(self) -> List<T>
         ensures { result ≡ self }
     {
-        let FrontList { reversed: mut items } = self;
+        let FrontList {
+            reversed: mut items,
+        } = self;
         items.reverse();
         List::from_vec(items)
     }

@@ -21,7 +21,12 @@ fn name_in(alloc: Global, content: Content) -> Result<Name, NoMem>
 {
     match content {
         Content::Name(name) => Ok(name),
-        Content::Nothing | Content::Int(_) | Content::Number { value: _, suffix: _ } => Name::from_str(alloc, ""),
+        Content::Nothing
+        | Content::Int(_)
+        | Content::Number {
+            value: _,
+            suffix: _,
+        } => Name::from_str(alloc, ""),
     }
 }
 
@@ -41,7 +46,12 @@ pub(crate) fn int_type_in(content: Content) -> IntTy
 {
     match content {
         Content::Int(ty) => ty,
-        Content::Nothing | Content::Name(_) | Content::Number { value: _, suffix: _ } => IntTy::U8,
+        Content::Nothing
+        | Content::Name(_)
+        | Content::Number {
+            value: _,
+            suffix: _,
+        } => IntTy::U8,
     }
 }
 

@@ -39,7 +39,11 @@ fn enclosed_type(whole: Span, types: List<Written>) -> Written
     }
 }
 
-pub(crate) fn bracketed_type(whole: Span, bracket: Lexeme, types: Spanned<FrontList<Written>>) -> Written
+pub(crate) fn bracketed_type(
+    whole: Span,
+    bracket: Lexeme,
+    types: Spanned<FrontList<Written>>,
+) -> Written
     ensures { result ≡ spec.bracketed_type whole bracket types }
 {
     enclosed_type(whole, types.value.into_list())
