@@ -1,5 +1,5 @@
 -- A function's body and a call on the machine come to what they mean without memory.
-use Rattle.std.proofs.Common.{◌≡◌, ℕ, ◌+◌, ◌≤◌, Bool, true, List, [], ◌∷◌, ◌++◌, length, map, refl, ap, sym, subst, ◌∙◌, arith, append-nil, length-append}
+use Rattle.std.proofs.Common.{◌≡◌, ℕ, ◌+◌, Bool, true, List, [], ◌∷◌, ◌++◌, length, map, refl, ap, sym, subst, ◌∙◌, arith, append-nil, length-append}
 use Rattle.std.specs.Prelude.{slice_get, Option, Some, option_and_then, ◌==◌, if◌then◌else◌}
 use Rattle.std.proofs.lemmas.List.{length-map}
 use Rattle.std.proofs.lemmas.Bool.{eq-eqb}
@@ -9,20 +9,15 @@ use Rattle.sums_ast.specs.Tree.{bind, Stmts, no_stmts, more_stmts, Block, block,
 use Rattle.sums_ast.specs.declared.function.Function.{Function}
 use Rattle.source_meaning.specs.Memory.{MTree, num, Memory, write_cell, drop_frame}
 use Rattle.source_meaning.specs.Machine as m
-use Rattle.source_meaning.specs.Machine.{Ran, gives, panics, more, stuck, then_do, run, run_stmt, run_last, run_body, run_block, wrote, left, entered, frame_from, made_cells}
+use Rattle.source_meaning.specs.Machine.{Ran, gives, panics, more, stuck, then_do, run, run_body, run_block, wrote, left, entered, frame_from, made_cells}
 use Rattle.source_meaning.specs.Typing.{IsTypedExpr, IsTypedBody, IsTypedBlock, IsTypedFunction}
+use Rattle.source_meaning.specs.FrameLemmas.{frame, frame_dropped}
+use Rattle.source_meaning.specs.TypingLemmas.{typed_within}
 use Rattle.pointer_machine.specs.Values as v
 use Rattle.pointer_machine.specs.Values.{Valued, value, body_value, block_value, and_then}
-use Rattle.pointer_machine.proofs.Frames.{frame, whole_memory, variable_write, cells, dropped}
+use Rattle.pointer_machine.proofs.Frames.{whole_memory, variable_write, cells}
 use Rattle.pointer_machine.proofs.Ends.{Ends, ends_then, ends_as, AreU32, u32_push}
 use Rattle.pointer_machine.proofs.Expressions.{SameCalls, ends}
-
-body_within : (earlier : List Function) (total count : ℕ) (stmts : Stmts) (last : MaybeExpr) → IsTypedBody earlier total count stmts last → count ≤ total
-body_within earlier total count no_stmts no_maybeexpr t = absurd t
-body_within earlier total count no_stmts (some_maybeexpr e) t = let same = t.0 in omega arith
-body_within earlier total count (more_stmts (bind s k e) rest) last t =
-    let below = body_within earlier total (count + 1) rest last t.2 in
-    omega arith
 
 then_then : (r : Ran) (f g : MTree → Memory → Ran) → then_do (then_do r f) g ≡ then_do r (λ t m1. then_do (f t m1) g)
 then_then (gives t m1) f g = refl
@@ -46,7 +41,7 @@ module _ (functions : List Function) (c : m.Call) (d : v.Call) (same : SameCalls
       (ends functions c d same earlier known_ old variables vars us (omega arith) e above
       (subst (λ (k : ℕ). IsTypedExpr earlier k e) (sym full) t))
   body_ends s (more_stmts (bind p k e) rest) last vars above us (is, t, ts) =
-      let below = body_within earlier (length variables) (length vars + 1) rest last ts in
+      let below = typed_within earlier (length variables) (length vars + 1) rest last ts in
       let start = whole_memory old variables vars in
       let write = λ (t1 : MTree) (m1 : Memory). wrote p (option_and_then (λ a. write_cell m1 a t1) (slice_get (frame old variables) k)) in
       let go = λ (t1 : MTree) (m1 : Memory). run_body c (frame old variables) rest last m1 in
@@ -69,7 +64,7 @@ module _ (functions : List Function) (c : m.Call) (d : v.Call) (same : SameCalls
     n,
     (
       drop_frame (frame_from 0 variables) new,
-      (te, ap (drop_frame (frame old variables)) me ∙ dropped variables old new (length old) 0 (omega arith), ve, u),
+      (te, ap (drop_frame (frame old variables)) me ∙ frame_dropped old variables new, ve, u),
     ),
   )
   left_ends (panics k) w e = e

@@ -1,5 +1,6 @@
 -- An expression on the machine comes to what it means without memory.
-use Rattle.std.proofs.Common.{◌≡◌, ℕ, ◌+◌, ◌≤◌, List, [], ◌∷◌, ◌++◌, length, map, refl, ap, sym, subst, subst₂, ◌∙◌, arith, append_assoc, length-append}
+use Rattle.std.proofs.Common.{◌≡◌, ℕ, ◌+◌, ◌≤◌, List, [], ◌∷◌, ◌++◌, length, map, refl, sym, subst, subst₂, ◌∙◌, arith, length-append}
+use Rattle.std.proofs.lemmas.List.{map_push}
 use Rattle.std.specs.Prelude.{slice_get, Option, Some}
 use Rattle.aen_base.specs.declared.span.Span.{Span}
 use Rattle.aen_base.specs.declared.operators.BinOp.{BinOp}
@@ -11,10 +12,11 @@ use Rattle.source_meaning.specs.Memory.{MTree, num, Memory}
 use Rattle.source_meaning.specs.Machine as m
 use Rattle.source_meaning.specs.Machine.{Ran, run, run_all, found}
 use Rattle.source_meaning.specs.Typing.{IsTypedExpr, AreTypedExprs}
+use Rattle.source_meaning.specs.FrameLemmas.{frame, frame_more}
 use Rattle.pointer_machine.specs.Values as v
 use Rattle.pointer_machine.specs.Values.{Valued, value, values, known, and_then, operate}
 use Rattle.pointer_machine.proofs.Places.{get_within}
-use Rattle.pointer_machine.proofs.Frames.{frame, whole_memory, variable_read, cells}
+use Rattle.pointer_machine.proofs.Frames.{whole_memory, variable_read, cells}
 use Rattle.pointer_machine.proofs.Ends.{Ends, ends_then, ends_as, sum_ends, AreU32, u32_at, u32_push}
 
 -- all calls of these functions with their number of arguments come to the same
@@ -22,19 +24,11 @@ pub record SameCalls (functions : List Function) (c : m.Call) (d : v.Call) : Typ
   pub each : (s : Span) (k : ℕ) (f : Function) (ns : List Number) (m0 : Memory) → slice_get functions k ≡ Some f → AreU32 ns → length ns ≡ f.parameters →
       Ends (λ new. m0 ++ new) (c s k (map num ns) m0) (d s k ns)
 
-map_push : (ns : List Number) (n : Number) → map num (ns ++ n ∷ []) ≡ map num ns ++ num n ∷ []
-map_push [] n = refl
-map_push (x ∷ ns) n = ap (λ (l : List MTree). num x ∷ l) (map_push ns n)
-
 module _ (functions : List Function) (c : m.Call) (d : v.Call) (same : SameCalls functions c d)
     (earlier : List Function) (known_ : (j : ℕ) (g : Function) → slice_get earlier j ≡ Some g → slice_get functions j ≡ Some g)
     (old : Memory) (variables : List (List ℕ)) (vars : List Number) (typed : AreU32 vars) (within : length vars ≤ length variables) where
   abbrev here : Memory → Memory
   here = whole_memory old variables vars
-
-  wider : (above new : Memory) → here above ++ new ≡ here (above ++ new)
-  wider above new =
-      append_assoc old (cells variables vars ++ above) new ∙ ap (λ (l : Memory). old ++ l) (append_assoc (cells variables vars) above new)
 
   mutual
     pub ends : (e : Expr) (above : Memory) → IsTypedExpr earlier (length vars) e →
@@ -55,7 +49,7 @@ module _ (functions : List Function) (c : m.Call) (d : v.Call) (same : SameCalls
         (λ ns above1 us count.
         let total : length ns ≡ length (exprs_list args) = omega arith in
         ends_as (λ (new : Memory). here above1 ++ new) here (c s f (map num ns) (here above1)) (d s f ns)
-        (λ new. (above1 ++ new, wider above1 new))
+        (λ new. (above1 ++ new, frame_more old variables (cells variables vars) above1 new))
         (same.each s f callee.callee ns (here above1) (known_ f callee.callee callee.found) us (total ∙ sym callee.arity)))
 
     pub all_end : (es : Exprs) (above : Memory) → AreTypedExprs earlier (length vars) es → (ns : List Number) → AreU32 ns →
@@ -67,7 +61,7 @@ module _ (functions : List Function) (c : m.Call) (d : v.Call) (same : SameCalls
     all_end (more_exprs e es) above (t, ts) ns us f g h =
         ends_then here here (run c (frame old variables) e (here above)) (value d vars e) _ (λ n. values d vars es (ns ++ n ∷ []) g) (ends e above t)
         (λ n above1 u.
-        subst (λ (l : List MTree). Ends here (run_all c (frame old variables) es l (here above1) f) (values d vars es (ns ++ n ∷ []) g)) (map_push ns n)
+        subst (λ (l : List MTree). Ends here (run_all c (frame old variables) es l (here above1) f) (values d vars es (ns ++ n ∷ []) g)) (map_push num ns n)
         (all_end es above1 ts (ns ++ n ∷ []) (u32_push ns n us u) f g
         (λ ms above2 us2 count.
         let len = length-append ns (n ∷ []) in

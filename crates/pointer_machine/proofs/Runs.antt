@@ -1,5 +1,5 @@
 -- A call from outside comes to the same with the machine's memory and without.
-use Rattle.std.proofs.Common.{◌≡◌, ℕ, zero, suc, ◌-◌, List, [], ◌∷◌, ◌++◌, length, get_or, map, refl, ap, sym, subst, subst₂, ◌∙◌, arith, append_assoc}
+use Rattle.std.proofs.Common.{◌≡◌, ℕ, zero, suc, ◌-◌, List, [], ◌∷◌, ◌++◌, length, get_or, map, refl, ap, sym, subst, subst₂, ◌∙◌, arith}
 use Rattle.std.proofs.lemmas.Option.{same_Some}
 use Rattle.std.specs.Prelude.{slice_get, Option, Some, None, Err, IsSomeAnd}
 use Rattle.pointer_machine.specs.declared.halt.Halt.TheVariants.{More}
@@ -15,35 +15,17 @@ use Rattle.source_meaning.specs.declared.outcome.Outcome.TheVariants as O
 use Rattle.source_meaning.specs.Memory.{MTree, num, Memory}
 use Rattle.source_meaning.specs.Machine as m
 use Rattle.source_meaning.specs.Machine.{Ran, gives, panics, more, stuck, call_at}
-use Rattle.source_meaning.specs.Typing.{IsTypedFunction, AreTyped, IsTyped}
+use Rattle.source_meaning.specs.Typing.{IsTyped}
+use Rattle.source_meaning.specs.TypingLemmas.{typed_at}
+use Rattle.source_meaning.specs.CallLemmas.{call_empty, call_more}
 use Rattle.source_meaning.specs.Calling as calling
 use Rattle.source_meaning.specs.Calling.{trees_of, outcome_of, value_of, call_outcome, IsU32Value, AreU32Values, AreArguments}
 use Rattle.pointer_machine.specs.Values as v
 use Rattle.pointer_machine.specs.Values.{Valued, call_value, numbers_of, outcome, begun}
 use Rattle.pointer_machine.specs.Outcomes.{IsSettled}
-use Rattle.pointer_machine.proofs.Places.{get_left_some}
 use Rattle.pointer_machine.proofs.Ends.{Ends, AreU32}
 use Rattle.pointer_machine.proofs.Expressions.{SameCalls}
 use Rattle.pointer_machine.proofs.Bodies.{function_ends}
-
--- a function of a typed program calls functions of the program
-typed_at : (earlier fs : List Function) (k : ℕ) (f : Function) → AreTyped earlier fs → slice_get fs k ≡ Some f →
-    (before : List Function) × IsTypedFunction before f × ((j : ℕ) (g : Function) → slice_get before j ≡ Some g → slice_get (earlier ++ fs) j ≡ Some g)
-typed_at earlier [] k f typed h = absurd (cc)
-typed_at earlier (x ∷ fs) zero f (typed, rest) h =
-    (earlier, subst (IsTypedFunction earlier) (same_Some x f h) typed, λ j g e. get_left_some earlier (x ∷ fs) j g e)
-typed_at earlier (x ∷ fs) (suc k) f (typed, rest) h =
-    let (before, is, known_) = typed_at (earlier ++ x ∷ []) fs k f rest h in
-    (before, is, λ j g e. ap (λ l. slice_get l j) (sym (append_assoc earlier (x ∷ []) fs)) ∙ known_ j g e)
-
-call_empty : (p : Program) (s : Span) (k : ℕ) (args : List MTree) (m0 : Memory) → call_at p zero s k args m0 ≡ more
-unfolding call_at
-call_empty p s k args m0 = refl
-
-call_more : (p : Program) (n : ℕ) (s : Span) (k : ℕ) (args : List MTree) (m0 : Memory) →
-    call_at p (suc n) s k args m0 ≡ m.entered (call_at p n) s (slice_get p.functions k) args m0
-unfolding call_at
-call_more p n s k args m0 = refl
 
 pub value_empty : (p : Program) (s : Span) (k : ℕ) (args : List Number) → call_value p zero s k args ≡ Err More
 unfolding call_value

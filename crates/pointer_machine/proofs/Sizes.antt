@@ -2,15 +2,10 @@
 use Rattle.std.proofs.Common.{◌≡◌, ℕ, zero, suc, ◌+◌, ◌-◌, ◌*◌, ◌<◌, ◌≤◌, List, [], ◌∷◌, length, get_or, suc-mul, refl, ap, arith}
 use Rattle.std.specs.Prelude.{slice_get, Some}
 use Rattle.std.proofs.lemmas.Option.{same_Some}
-use Rattle.sums_ast.specs.Tree.{Expr, Stmt, bind, nodes_expr, nodes_exprs, exprs, nodes_stmt, nodes_stmts, stmts, nodes_block}
+use Rattle.sums_ast.specs.Tree.{Stmt, bind, nodes_expr, nodes_stmt, nodes_stmts, stmts, nodes_block}
 use Rattle.sums_ast.specs.declared.function.Function.{Function}
 use Rattle.pointer_machine.specs.Size.{bodies, weight}
 use Rattle.pointer_machine.specs.Values.{bound_to}
-
-pub exprs_item : (xs : List Expr) (i : ℕ) (x : Expr) → i < length xs → x ≡ get_or xs i x → nodes_expr x < nodes_exprs (exprs xs)
-exprs_item [] i x h e = absurd (omega arith)
-exprs_item (y ∷ xs) zero x h e = let same = ap nodes_expr e in omega arith
-exprs_item (y ∷ xs) (suc i) x h e = let less = exprs_item xs i x (omega arith) e in omega arith
 
 -- what a `let` gives is smaller than the statement
 bound_size : (x : Stmt) → nodes_expr (bound_to x) < nodes_stmt x

@@ -1,11 +1,13 @@
 -- An expression along its left sides: what it comes to, and how large its parts are.
-use Rattle.std.specs.Prelude.{ℕ, ◌<◌, List, [], ◌∷◌, slice_get, Ok}
+use Rattle.std.specs.Prelude.{ℕ, ◌<◌, List, [], slice_get, Ok}
 use Rattle.aen_base.specs.Numbers.{Number}
-use Rattle.sums_ast.specs.Tree.{exprs, nodes_expr, nodes_exprs}
+use Rattle.sums_ast.specs.Tree.{Expr, exprs, nodes_exprs}
 use Rattle.pointer_machine.specs.declared.spine.First.{First}
 use Rattle.pointer_machine.specs.declared.spine.First.TheVariants as F
 use Rattle.pointer_machine.specs.declared.spine.Right.{Right}
 use Rattle.pointer_machine.specs.declared.spine.Spine.{Spine}
+use Rattle.source_meaning.specs.Spine.{after_rights}
+pub use Rattle.source_meaning.specs.Spine.{AreBelow}
 pub use Rattle.pointer_machine.specs.Values.{value, Call}
 use Rattle.pointer_machine.specs.Values.{Valued, and_then, known, operate, values}
 
@@ -20,8 +22,7 @@ with_right c vars r left = and_then left (λ x. and_then (value c vars r.side.no
 
 -- the operators after the left side, the last of them first
 abbrev pub rights_value : Call → List Number → List Right → Valued → Valued
-rights_value c vars [] left = left
-rights_value c vars (r ∷ rest) left = with_right c vars r (rights_value c vars rest left)
+rights_value c vars rights left = after_rights (with_right c vars) left rights
 
 abbrev pub spine_value : Call → List Number → Spine → Valued
 spine_value c vars s = rights_value c vars s.rights (first_value c vars s.first)
@@ -32,11 +33,10 @@ first_nodes (F.Number n) = 0
 first_nodes (F.Variable s k) = 0
 first_nodes (F.Call s f args) = nodes_exprs (exprs args.now)
 
--- the parts are smaller than this number
-abbrev pub AreBelow : ℕ → List Right → Type 0
-AreBelow n [] = Unit {0}
-AreBelow n (r ∷ rest) = (nodes_expr r.side.now < n) × AreBelow n rest
+abbrev pub right_side : Right → Expr
+right_side r = r.side.now
 
+-- the parts are smaller than this number
 pub record IsBelow (n : ℕ) (s : Spine) : Type 0 where
   pub first : first_nodes s.first < n
-  pub rights : AreBelow n s.rights
+  pub rights : AreBelow right_side n s.rights

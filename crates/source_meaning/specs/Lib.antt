@@ -6,3 +6,10 @@ pub mod Memory
 pub mod Machine
 pub mod Typing
 pub mod Calling
+pub mod Spine
+pub mod PlaceLemmas
+pub mod FrameLemmas
+pub mod TypingLemmas
+pub mod CallLemmas
+pub mod SizeLemmas
+pub mod SpineLemmas

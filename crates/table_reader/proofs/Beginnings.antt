@@ -13,8 +13,8 @@ use Rattle.table_reader.specs.Conditions as C
 use Rattle.table_reader.specs.Conditions.{accepts, single}
 use Rattle.table_reader.specs.Machine as M
 use Rattle.table_reader.specs.Machine.{IsAt, first_place, is_empty}
-use Rattle.table_reader.proofs.Theorem as H
-use Rattle.table_reader.proofs.Theorem.{left_of, right_of}
+use Rattle.table_reader.proofs.Heads as Heads
+use Rattle.table_reader.proofs.Heads.{left_of, right_of}
 
 append_nil : {A : Type 0} (xs : List A) → xs ++ [] ≡ xs
 append_nil [] = refl
@@ -88,7 +88,7 @@ false_of false f = refl
 pub empty_at : {A : Type 0} (ps : List (List A)) (i : ℕ) → single ps ≡ true → IsAt [] i ps → first_place is_empty ps ≡ Some i
 empty_at [] i s h = absurd h
 empty_at ([] ∷ ps) zero s h = refl
-empty_at ([] ∷ ps) (suc i) s h = absurd (H.not_true (has_empty ps) s (has_it ps (one_of_at [] i ps h)))
+empty_at ([] ∷ ps) (suc i) s h = absurd (Heads.not_true (has_empty ps) s (has_it ps (one_of_at [] i ps h)))
   where
     has_it : {A : Type 0} (ps : List (List A)) → IsOneOf [] ps → has_empty ps ≡ true
     has_it [] h = absurd h
@@ -113,13 +113,13 @@ module _ {T N L : Type 0} (takes : T → L → Take L) (productions : N → List
   firm d ps = C.firm productions d ps
 
   abbrev all_apart : List T → Bool
-  all_apart ts = H.all_apart takes productions rank weight fits ts
+  all_apart ts = Heads.all_apart takes productions rank weight fits ts
 
   abbrev Begins : List T → L → Type 0
-  Begins ts l = H.Begins takes productions rank weight fits ts l
+  Begins ts l = Heads.Begins takes productions rank weight fits ts l
 
   abbrev IsSome : Symbols → Type 0
-  IsSome s = H.IsSome takes productions rank weight fits s
+  IsSome s = Heads.IsSome takes productions rank weight fits s
 
   pub firm_tail : (d : ℕ) (x : Symbols) (ps : List Symbols) → firm d (x ∷ ps) ≡ true → firm d ps ≡ true
   firm_tail d [] ps h = h
@@ -131,7 +131,7 @@ module _ {T N L : Type 0} (takes : T → L → Take L) (productions : N → List
   firm_one d [] ps h = refl
   firm_one d (S.Token t ∷ p) ps h = refl
   firm_one zero (S.Part n ∷ p) ps h = absurd cc
-  firm_one (suc d) (S.Part n ∷ p) ps h = H.and_both (not (has_empty (productions n)) && firm d (productions n)) true (left_of (not (has_empty (productions n)) && firm d (productions n)) _ h) refl
+  firm_one (suc d) (S.Part n ∷ p) ps h = Heads.and_both (not (has_empty (productions n)) && firm d (productions n)) true (left_of (not (has_empty (productions n)) && firm d (productions n)) _ h) refl
 
   pub heads_split : (d : ℕ) (x : Symbols) (ps : List Symbols) → heads d (x ∷ ps) ≡ heads d (x ∷ []) ++ heads d ps
   heads_split d [] ps = refl
@@ -142,11 +142,11 @@ module _ {T N L : Type 0} (takes : T → L → Take L) (productions : N → List
   -- two productions of which one is the first
   pub first_clash : (d : ℕ) (x : Symbols) (ps : List Symbols) (l : L) → all_apart (heads d (x ∷ ps)) ≡ true → Begins (heads d (x ∷ [])) l → Begins (heads d ps) l → ⊥
   first_clash d x ps l h b c =
-      H.clash takes productions rank weight fits (heads d (x ∷ [])) (heads d ps) l
-      (H.apart_both takes productions rank weight fits (heads d (x ∷ [])) (heads d ps) (subst (λ (ts : List T). all_apart ts ≡ true) (heads_split d x ps) h)) b c
+      Heads.clash takes productions rank weight fits (heads d (x ∷ [])) (heads d ps) l
+      (Heads.apart_both takes productions rank weight fits (heads d (x ∷ [])) (heads d ps) (subst (λ (ts : List T). all_apart ts ≡ true) (heads_split d x ps) h)) b c
 
   pub tail_apart : (d : ℕ) (x : Symbols) (ps : List Symbols) → all_apart (heads d (x ∷ ps)) ≡ true → all_apart (heads d ps) ≡ true
-  tail_apart d x ps h = H.apart_tail takes productions rank weight fits (heads d (x ∷ [])) (heads d ps) (subst (λ (ts : List T). all_apart ts ≡ true) (heads_split d x ps) h)
+  tail_apart d x ps h = Heads.apart_tail takes productions rank weight fits (heads d (x ∷ [])) (heads d ps) (subst (λ (ts : List T). all_apart ts ≡ true) (heads_split d x ps) h)
 
   -- the test whether a token takes the lexeme
   abbrev taken_by : L → T → Bool
@@ -154,7 +154,7 @@ module _ {T N L : Type 0} (takes : T → L → Take L) (productions : N → List
 
   any_by : (b : Bool) (t : T) (ts : List T) (l : L) → taken_by l t ≡ b → (list_any (taken_by l) ts ≡ true → Begins ts l) → b || list_any (taken_by l) ts ≡ true → Begins (t ∷ ts) l
   any_by true t ts l e f h = record { with = t; one = inl refl; good = e }
-  any_by false t ts l e f h = H.to_later takes productions rank weight fits t ts l (f h)
+  any_by false t ts l e f h = Heads.to_later takes productions rank weight fits t ts l (f h)
 
   pub any_begins : (ts : List T) (l : L) → list_any (taken_by l) ts ≡ true → Begins ts l
   any_begins [] l h = absurd cc
@@ -184,9 +184,9 @@ module _ {T N L : Type 0} (takes : T → L → Take L) (productions : N → List
       Derives (q ++ rest) (l ∷ ls) → first_place (test l) ps ≡ Some i
   forced_some [] i f a q rest l ls h s d = absurd h
   forced_some (p ∷ ps) zero f a q rest l ls h s d =
-      first_here (test l) p ps (begins_any (heads rank (p ∷ [])) l (H.begun_heads takes productions rank weight fits rank (p ∷ []) (firm_one rank p ps f) q rest l ls (inl h) s d))
+      first_here (test l) p ps (begins_any (heads rank (p ∷ [])) l (Heads.begun_heads takes productions rank weight fits rank (p ∷ []) (firm_one rank p ps f) q rest l ls (inl h) s d))
   forced_some (p ∷ ps) (suc i) f a q rest l ls h s d =
-      let others = H.begun_heads takes productions rank weight fits rank ps (firm_tail rank p ps f) q rest l ls (one_of_at q i ps h) s d in
+      let others = Heads.begun_heads takes productions rank weight fits rank ps (firm_tail rank p ps f) q rest l ls (one_of_at q i ps h) s d in
       first_later (test l) p ps (false_of (test l p) (λ e. first_clash rank p ps l a (any_begins (heads rank (p ∷ [])) l e) others))
       ∙ ap one_more (forced_some ps i (firm_tail rank p ps f) (tail_apart rank p ps a) q rest l ls h s d)
 
@@ -196,15 +196,15 @@ module _ {T N L : Type 0} (takes : T → L → Take L) (productions : N → List
   none_begins (p ∷ ps) l f =
       let whole = sym (heads_split rank p ps) in
       first_later (test l) p ps (false_of (test l p) (λ e. f (subst (λ (ts : List T). Begins ts l) whole
-      (H.to_left takes productions rank weight fits (heads rank (p ∷ [])) (heads rank ps) l (any_begins (heads rank (p ∷ [])) l e)))))
-      ∙ ap one_more (none_begins ps l (λ b. f (subst (λ (ts : List T). Begins ts l) whole (H.to_right takes productions rank weight fits (heads rank (p ∷ [])) (heads rank ps) l b))))
+      (Heads.to_left takes productions rank weight fits (heads rank (p ∷ [])) (heads rank ps) l (any_begins (heads rank (p ∷ [])) l e)))))
+      ∙ ap one_more (none_begins ps l (λ b. f (subst (λ (ts : List T). Begins ts l) whole (Heads.to_right takes productions rank weight fits (heads rank (p ∷ [])) (heads rank ps) l b))))
 
   some_by : (b : Bool) (p : Symbols) (ps : List Symbols) (l : L) (i : ℕ) → test l p ≡ b →
       ((i : ℕ) → first_place (test l) ps ≡ Some i → Begins (heads rank ps) l) → first_place (test l) (p ∷ ps) ≡ Some i → Begins (heads rank (p ∷ ps)) l
   some_by true p ps l i e f h =
-      subst (λ (ts : List T). Begins ts l) (sym (heads_split rank p ps)) (H.to_left takes productions rank weight fits (heads rank (p ∷ [])) (heads rank ps) l (any_begins (heads rank (p ∷ [])) l e))
+      subst (λ (ts : List T). Begins ts l) (sym (heads_split rank p ps)) (Heads.to_left takes productions rank weight fits (heads rank (p ∷ [])) (heads rank ps) l (any_begins (heads rank (p ∷ [])) l e))
   some_by false p ps l i e f h =
-      subst (λ (ts : List T). Begins ts l) (sym (heads_split rank p ps)) (H.to_right takes productions rank weight fits (heads rank (p ∷ [])) (heads rank ps) l
+      subst (λ (ts : List T). Begins ts l) (sym (heads_split rank p ps)) (Heads.to_right takes productions rank weight fits (heads rank (p ∷ [])) (heads rank ps) l
       (one_less (first_place (test l) ps) refl (sym (first_later (test l) p ps e) ∙ h)))
     where
       one_less : (o : Option ℕ) → first_place (test l) ps ≡ o → one_more o ≡ Some i → Begins (heads rank ps) l

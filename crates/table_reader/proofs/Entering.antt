@@ -12,7 +12,7 @@ use Rattle.table_reader.specs.Steps.{has_empty}
 use Rattle.table_reader.specs.Reading.{Made, plain}
 use Rattle.table_reader.specs.Machine as M
 use Rattle.table_reader.specs.Machine.{IsAt, IsReached, HasFirst, coming, symbols, begun, empty_place}
-use Rattle.table_reader.proofs.Theorem.{left_of, right_of}
+use Rattle.table_reader.proofs.Heads.{left_of, right_of}
 use Rattle.table_reader.proofs.Beginnings.{one_of_at, first_at}
 use Rattle.table_reader.proofs.Leading as Leading
 use Rattle.table_reader.proofs.Leading.{symbols_coming}

@@ -16,7 +16,10 @@ use Rattle.table_reader.specs.Reading.{Made, Parts, plain}
 use Rattle.table_reader.specs.Building as Building
 use Rattle.table_reader.specs.Machine as M
 use Rattle.table_reader.specs.Machine.{IsAt, IsReached, coming, symbols, first_place, is_empty}
-use Rattle.table_reader.proofs.Theorem as H
+use Rattle.table_reader.proofs.Heads as Heads
+use Rattle.table_reader.proofs.Following as Following
+use Rattle.table_reader.proofs.Completeness as Completeness
+use Rattle.table_reader.proofs.Theorem as Theorem
 use Rattle.table_reader.proofs.Beginnings as B
 use Rattle.table_reader.proofs.Beginnings.{one_of_at, at_of_one, same_at, empty_at}
 
@@ -89,15 +92,15 @@ module _ {T N L V : Type 0} (takes : T → L → Take L) (carrier : N → Type 0
       Derives s ls = D.Derives takes productions s ls
 
       abbrev Sits : List (Symbol T N) → Type 0
-      Sits s = H.Sits takes productions rank weight fits s
+      Sits s = Following.Sits takes productions rank weight fits s
 
       pub reached_sits : {s : List (Symbol T N)} → IsReached productions s → Sits s
       reached_sits (M.start n) = ((λ t i. absurd i), tt)
       reached_sits (M.token h) = reached_sits h
       reached_sits (M.part {n} {rest} p one h) =
           let s = reached_sits h in
-          H.sits_append takes productions rank weight fits p rest (fits.follow n)
-          (H.all_of (λ q. H.sits takes productions rank weight fits q (fits.follow n)) (productions n) p (H.sits_part takes productions rank weight fits n) one) s.0 s.1
+          Following.sits_append takes productions rank weight fits p rest (fits.follow n)
+          (Heads.all_of (λ q. Heads.sits takes productions rank weight fits q (fits.follow n)) (productions n) p (Heads.sits_part takes productions rank weight fits n) one) s.0 s.1
 
       -- the place of the production that goes on with a lexeme
       abbrev begun : N → L → Option ℕ
@@ -108,19 +111,19 @@ module _ {T N L V : Type 0} (takes : T → L → Take L) (carrier : N → Type 0
 
       begun_some : (n : N) (i : ℕ) (s : Symbol T N) (q rest : List (Symbol T N)) (l : L) (ls : List L) → IsAt (s ∷ q) i (productions n) → Derives ((s ∷ q) ++ rest) (l ∷ ls) → begun n l ≡ Some i
       begun_some n i s q rest l ls h d =
-          B.forced_some takes productions rank weight fits (productions n) i (H.firm_part takes productions rank weight fits n) (H.heads_part takes productions rank weight fits n)
+          B.forced_some takes productions rank weight fits (productions n) i (Heads.firm_part takes productions rank weight fits n) (Heads.heads_part takes productions rank weight fits n)
           (s ∷ q) rest l ls h tt d
 
       empty_is : (n : N) (i : ℕ) → IsAt [] i (productions n) → empty_place n ≡ Some i
-      empty_is n i h = empty_at (productions n) i (H.single_part takes productions rank weight fits n) h
+      empty_is n i h = empty_at (productions n) i (Heads.single_part takes productions rank weight fits n) h
 
       begun_none : (n : N) (i : ℕ) (rest : List (Symbol T N)) (l : L) (ls : List L) → Sits (S.Part n ∷ rest) → IsAt [] i (productions n) → Derives rest (l ∷ ls) → begun n l ≡ None
       begun_none n i rest l ls s h d =
-          let c = H.derives_begins takes productions rank weight fits rest l ls d in
+          let c = Completeness.derives_begins takes productions rank weight fits rest l ls d in
           B.none_begins takes productions rank weight fits (productions n) l
-          (λ b. H.clash takes productions rank weight fits (H.heads takes productions rank weight fits rank (productions n)) (fits.follow n) l
-          (H.ends_by takes productions rank weight fits (has_empty (productions n)) (H.heads takes productions rank weight fits rank (productions n)) (fits.follow n)
-          (H.empty_complete takes productions rank weight fits (productions n) (one_of_at [] i (productions n) h)) (H.ends_part takes productions rank weight fits n))
+          (λ b. Heads.clash takes productions rank weight fits (Heads.heads takes productions rank weight fits rank (productions n)) (fits.follow n) l
+          (Completeness.ends_by takes productions rank weight fits (has_empty (productions n)) (Heads.heads takes productions rank weight fits rank (productions n)) (fits.follow n)
+          (Completeness.empty_complete takes productions rank weight fits (productions n) (one_of_at [] i (productions n) h)) (Heads.ends_part takes productions rank weight fits n))
           b (record { with = c.with; one = s.0 c.with c.one; good = c.good }))
 
       derived : (n : N) (p : List (Symbol T N)) (j : ℕ) (rest : List (Coming T N)) (values : Values) (ls : List L) (last : Values) →
@@ -168,7 +171,7 @@ module _ {T N L V : Type 0} (takes : T → L → Take L) (carrier : N → Type 0
           part_must e (M.part m j at h) = must_by e m.symbols j (made_at n m j at) h
 
           firm_by : has_empty (productions n) ≡ false → (p : List (Symbol T N)) (j : ℕ) → IsAt p j (productions n) → Leads (map coming p ++ C.Over n j ∷ rest) values (l ∷ ls) last → ⊥
-          firm_by e [] j at h = let f = H.empty_complete takes productions rank weight fits (productions n) (one_of_at [] j (productions n) at) in cc
+          firm_by e [] j at h = let f = Completeness.empty_complete takes productions rank weight fits (productions n) (one_of_at [] j (productions n) at) in cc
           firm_by e (s ∷ p) j at h = let f = begun_some n j s p (symbols rest) l ls at (derived n (s ∷ p) j rest values (l ∷ ls) last h) in cc
 
           -- a part that is never empty begins with it
@@ -183,7 +186,7 @@ module _ {T N L V : Type 0} (takes : T → L → Take L) (carrier : N → Type 0
             let place : j ≡ i = cc in
             subst (λ (k : ℕ). Leads (C.Over n k ∷ rest) values [] last) place h
         ends_by i e (s ∷ p) j at h =
-            absurd (H.no_end takes productions rank weight fits rank (productions n) (H.firm_part takes productions rank weight fits n) (s ∷ p) (symbols rest)
+            absurd (Theorem.no_end takes productions rank weight fits rank (productions n) (Heads.firm_part takes productions rank weight fits n) (s ∷ p) (symbols rest)
             (one_of_at (s ∷ p) j (productions n) at) tt (derived n (s ∷ p) j rest values [] last h))
 
         pub part_ends : (i : ℕ) → empty_place n ≡ Some i → Leads (C.Part n ∷ rest) values [] last → Leads (C.Over n i ∷ rest) values [] last
@@ -192,7 +195,7 @@ module _ {T N L V : Type 0} (takes : T → L → Take L) (carrier : N → Type 0
         end_by : empty_place n ≡ None → (p : List (Symbol T N)) (j : ℕ) → IsAt p j (productions n) → Leads (map coming p ++ C.Over n j ∷ rest) values [] last → ⊥
         end_by e [] j at h = let f = empty_is n j at in cc
         end_by e (s ∷ p) j at h =
-            H.no_end takes productions rank weight fits rank (productions n) (H.firm_part takes productions rank weight fits n) (s ∷ p) (symbols rest)
+            Theorem.no_end takes productions rank weight fits rank (productions n) (Heads.firm_part takes productions rank weight fits n) (s ∷ p) (symbols rest)
             (one_of_at (s ∷ p) j (productions n) at) tt (derived n (s ∷ p) j rest values [] last h)
 
         pub end_must : empty_place n ≡ None → Leads (C.Part n ∷ rest) values [] last → ⊥

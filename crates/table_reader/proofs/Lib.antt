@@ -1,4 +1,8 @@
 pub mod Sound
+pub mod Heads
+pub mod Choices
+pub mod Following
+pub mod Completeness
 pub mod Theorem
 pub mod Beginnings
 pub mod Stepping

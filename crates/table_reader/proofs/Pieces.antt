@@ -6,7 +6,7 @@ use Rattle.table_reader.specs.declared.take.Take.TheVariants as K
 use Rattle.table_reader.specs.Conditions.{Fits}
 use Rattle.table_reader.specs.Steps.{Turn, refused, taken, left, turn, turns, after_turn, step}
 use Rattle.table_reader.specs.Stacks.{Turns, Takes}
-use Rattle.table_reader.proofs.Theorem as H
+use Rattle.table_reader.proofs.Completeness as Completeness
 
 front_by : {T N L : Type 0} (t : Turn T N L) (half q : L) (new : List (Symbol T N)) → Turns t (K.Front half q) new → t ≡ left new q
 front_by refused half q new h = absurd h
@@ -19,7 +19,7 @@ module _ {T N L : Type 0} (takes : T → L → Take L) (productions : N → List
   Symbols = List (Symbol T N)
 
   abbrev Lighter : Turn T N L → L → Type 0
-  Lighter t l = H.Lighter takes productions rank weight fits t l
+  Lighter t l = Completeness.Lighter takes productions rank weight fits t l
 
   same_after : (k m : ℕ) (t : Turn T N L) (l : L) → Lighter t l →
       ((p : Symbols) (r : L) → weight r < weight l → turns takes productions rank weight k p r ≡ turns takes productions rank weight m p r) →
@@ -34,7 +34,7 @@ module _ {T N L : Type 0} (takes : T → L → Take L) (productions : N → List
   same_turns zero m s l v w = absurd (omega arith)
   same_turns (suc k) zero s l v w = absurd (omega arith)
   same_turns (suc k) (suc m) s l v w =
-      same_after k m (turn takes productions rank weight s l) l (H.turn_lighter takes productions rank weight fits s l)
+      same_after k m (turn takes productions rank weight s l) l (Completeness.turn_lighter takes productions rank weight fits s l)
       (λ p r u. same_turns k m p r (omega (arith, u, v)) (omega (arith, u, w)))
 
   module _ (s : Symbols) (l half q : L) (new : Symbols) (h : Turns (turn takes productions rank weight s l) (K.Front half q) new) where
@@ -42,7 +42,7 @@ module _ {T N L : Type 0} (takes : T → L → Take L) (productions : N → List
     is_left = front_by (turn takes productions rank weight s l) half q new h
 
     pub left_lighter : weight q < weight l
-    left_lighter = subst (λ (t : Turn T N L). Lighter t l) is_left (H.turn_lighter takes productions rank weight fits s l)
+    left_lighter = subst (λ (t : Turn T N L). Lighter t l) is_left (Completeness.turn_lighter takes productions rank weight fits s l)
 
     pub step_left : step takes productions rank weight s l ≡ step takes productions rank weight new q
     step_left =

@@ -12,9 +12,12 @@ use Rattle.table_reader.specs.Reading as R
 use Rattle.table_reader.specs.Reading.{Made, Parts}
 use Rattle.table_reader.proofs.Readings as Readings
 use Rattle.table_reader.proofs.Readings.{of_plain}
-use Rattle.table_reader.proofs.Theorem as H
+use Rattle.table_reader.proofs.Heads as Heads
+use Rattle.table_reader.proofs.Following as Following
+use Rattle.table_reader.proofs.Completeness as Completeness
+use Rattle.table_reader.proofs.Theorem as Theorem
 use Rattle.table_reader.proofs.Beginnings as B
-use Rattle.table_reader.proofs.Theorem.{left_of, right_of}
+use Rattle.table_reader.proofs.Heads.{left_of, right_of}
 
 module _ {T N L : Type 0} (takes : T → L → Take L) (carrier : N → Type 0) (made : (n : N) → List (Made T N L carrier n)) (rank : ℕ) (weight : L → ℕ)
     (fits : C.Fits takes (Readings.productions takes carrier made) rank weight) where
@@ -34,25 +37,25 @@ module _ {T N L : Type 0} (takes : T → L → Take L) (carrier : N → Type 0) 
   Derives s ls = D.Derives takes prods s ls
 
   abbrev heads : ℕ → List Symbols → List T
-  heads d ps = H.heads takes prods rank weight fits d ps
+  heads d ps = Heads.heads takes prods rank weight fits d ps
 
   abbrev firm : ℕ → List Symbols → Bool
-  firm d ps = H.firm takes prods rank weight fits d ps
+  firm d ps = Heads.firm takes prods rank weight fits d ps
 
   abbrev all_apart : List T → Bool
-  all_apart ts = H.all_apart takes prods rank weight fits ts
+  all_apart ts = Heads.all_apart takes prods rank weight fits ts
 
   abbrev Sits : Symbols → Type 0
-  Sits s = H.Sits takes prods rank weight fits s
+  Sits s = Following.Sits takes prods rank weight fits s
 
   abbrev IsSome : Symbols → Type 0
-  IsSome s = H.IsSome takes prods rank weight fits s
+  IsSome s = Heads.IsSome takes prods rank weight fits s
 
   abbrev Begins : List T → L → Type 0
-  Begins ts l = H.Begins takes prods rank weight fits ts l
+  Begins ts l = Heads.Begins takes prods rank weight fits ts l
 
   begins : (d : ℕ) (ps : List Symbols) → firm d ps ≡ true → (q rest : Symbols) (l : L) (ls : List L) → IsOneOf q ps → IsSome q → Derives (q ++ rest) (l ∷ ls) → Begins (heads d ps) l
-  begins d ps h q rest l ls i s x = H.begun_heads takes prods rank weight fits d ps h q rest l ls i s x
+  begins d ps h q rest l ls i s x = Heads.begun_heads takes prods rank weight fits d ps h q rest l ls i s x
 
   same_made : (n : N) (d : ℕ) (ms : List (Way n)) → firm d (plain n ms) ≡ true → all_apart (heads d (plain n ms)) ≡ true → (a b : Way n) (rest : Symbols) (l : L) (ls : List L) →
       IsOneOf a ms → IsOneOf b ms → IsSome a.symbols → IsSome b.symbols → Derives (a.symbols ++ rest) (l ∷ ls) → Derives (b.symbols ++ rest) (l ∷ ls) → a ≡ b
@@ -71,14 +74,14 @@ module _ {T N L : Type 0} (takes : T → L → Take L) (carrier : N → Type 0) 
 
   -- empty ones
   has_it : (ps : List Symbols) → IsOneOf [] ps → has_empty ps ≡ true
-  has_it ps h = H.empty_complete takes prods rank weight fits ps h
+  has_it ps h = Completeness.empty_complete takes prods rank weight fits ps h
 
   first_by : (x : Symbols) (ps : List Symbols) → x ≡ [] → single (x ∷ ps) ≡ true → IsOneOf [] ps → ⊥
-  first_by [] ps e h i = H.not_true (has_empty ps) h (has_it ps i)
+  first_by [] ps e h i = Heads.not_true (has_empty ps) h (has_it ps i)
   first_by (s ∷ p) ps e h i = cc
 
   later_by : (x : Symbols) (ps : List Symbols) → single (x ∷ ps) ≡ true → IsOneOf [] ps → single ps ≡ true
-  later_by [] ps h i = absurd (H.not_true (has_empty ps) h (has_it ps i))
+  later_by [] ps h i = absurd (Heads.not_true (has_empty ps) h (has_it ps i))
   later_by (s ∷ p) ps h i = h
 
   empty_one : (n : N) (a : Way n) (ms : List (Way n)) → IsOneOf a ms → a.symbols ≡ [] → IsOneOf [] (plain n ms)
@@ -98,12 +101,12 @@ module _ {T N L : Type 0} (takes : T → L → Take L) (carrier : N → Type 0) 
 
   one_is_empty : (n : N) (a b : Way n) (rest : Symbols) (ls : List L) → Sits (S.Part n ∷ rest) → IsOneOf a (made n) → IsOneOf b (made n) → a.symbols ≡ [] → IsSome b.symbols →
       Derives rest ls → Derives (b.symbols ++ rest) ls → ⊥
-  one_is_empty n a b rest [] h i j e t x y = H.no_end takes prods rank weight fits rank (prods n) (H.firm_part takes prods rank weight fits n) b.symbols rest (of_plain carrier n b (made n) j) t y
+  one_is_empty n a b rest [] h i j e t x y = Theorem.no_end takes prods rank weight fits rank (prods n) (Heads.firm_part takes prods rank weight fits n) b.symbols rest (of_plain carrier n b (made n) j) t y
   one_is_empty n a b rest (l ∷ ls) h i j e t x y =
-      let c = H.derives_begins takes prods rank weight fits rest l ls x in
-      H.clash takes prods rank weight fits (heads rank (prods n)) (fits.follow n) l
-      (H.ends_by takes prods rank weight fits (has_empty (prods n)) (heads rank (prods n)) (fits.follow n) (has_it (prods n) (empty_one n a (made n) i e)) (H.ends_part takes prods rank weight fits n))
-      (begins rank (prods n) (H.firm_part takes prods rank weight fits n) b.symbols rest l ls (of_plain carrier n b (made n) j) t y)
+      let c = Completeness.derives_begins takes prods rank weight fits rest l ls x in
+      Heads.clash takes prods rank weight fits (heads rank (prods n)) (fits.follow n) l
+      (Completeness.ends_by takes prods rank weight fits (has_empty (prods n)) (heads rank (prods n)) (fits.follow n) (has_it (prods n) (empty_one n a (made n) i e)) (Heads.ends_part takes prods rank weight fits n))
+      (begins rank (prods n) (Heads.firm_part takes prods rank weight fits n) b.symbols rest l ls (of_plain carrier n b (made n) j) t y)
       (record { with = c.with; one = h.0 c.with c.one; good = c.good })
 
   none_left : (n : N) (a : Way n) (rest : Symbols) (ls : List L) → a.symbols ≡ [] → Derives (a.symbols ++ rest) ls → Derives rest ls
@@ -111,13 +114,13 @@ module _ {T N L : Type 0} (takes : T → L → Take L) (carrier : N → Type 0) 
 
   both_some : (n : N) (a b : Way n) (rest : Symbols) (ls : List L) → IsOneOf a (made n) → IsOneOf b (made n) → IsSome a.symbols → IsSome b.symbols →
       Derives (a.symbols ++ rest) ls → Derives (b.symbols ++ rest) ls → a ≡ b
-  both_some n a b rest [] i j s t x y = absurd (H.no_end takes prods rank weight fits rank (prods n) (H.firm_part takes prods rank weight fits n) a.symbols rest (of_plain carrier n a (made n) i) s x)
+  both_some n a b rest [] i j s t x y = absurd (Theorem.no_end takes prods rank weight fits rank (prods n) (Heads.firm_part takes prods rank weight fits n) a.symbols rest (of_plain carrier n a (made n) i) s x)
   both_some n a b rest (l ∷ ls) i j s t x y =
-      same_made n rank (made n) (H.firm_part takes prods rank weight fits n) (H.heads_part takes prods rank weight fits n) a b rest l ls i j s t x y
+      same_made n rank (made n) (Heads.firm_part takes prods rank weight fits n) (Heads.heads_part takes prods rank weight fits n) a b rest l ls i j s t x y
 
   forced_by : (n : N) (a b : Way n) (rest : Symbols) (ls : List L) → Sits (S.Part n ∷ rest) → IsOneOf a (made n) → IsOneOf b (made n) →
       ((a.symbols ≡ []) ⊎ IsSome a.symbols) → ((b.symbols ≡ []) ⊎ IsSome b.symbols) → Derives (a.symbols ++ rest) ls → Derives (b.symbols ++ rest) ls → a ≡ b
-  forced_by n a b rest ls h i j (inl e) (inl f) x y = same_empty n (made n) (H.single_part takes prods rank weight fits n) a b i j e f
+  forced_by n a b rest ls h i j (inl e) (inl f) x y = same_empty n (made n) (Heads.single_part takes prods rank weight fits n) a b i j e f
   forced_by n a b rest ls h i j (inl e) (inr t) x y = absurd (one_is_empty n a b rest ls h i j e t (none_left n a rest ls e x) y)
   forced_by n a b rest ls h i j (inr s) (inl f) x y = absurd (one_is_empty n b a rest ls h j i f s (none_left n b rest ls f y) x)
   forced_by n a b rest ls h i j (inr s) (inr t) x y = both_some n a b rest ls i j s t x y
@@ -142,8 +145,8 @@ module _ {T N L : Type 0} (takes : T → L → Take L) (carrier : N → Type 0) 
 
   sits_in : (n : N) (a : Way n) (rest : Symbols) → IsOneOf a (made n) → Sits (S.Part n ∷ rest) → Sits (a.symbols ++ rest)
   sits_in n a rest i h =
-      H.sits_append takes prods rank weight fits a.symbols rest (fits.follow n)
-      (H.all_of (λ p. H.sits takes prods rank weight fits p (fits.follow n)) (prods n) a.symbols (H.sits_part takes prods rank weight fits n) (of_plain carrier n a (made n) i)) h.0 h.1
+      Following.sits_append takes prods rank weight fits a.symbols rest (fits.follow n)
+      (Heads.all_of (λ p. Heads.sits takes prods rank weight fits p (fits.follow n)) (prods n) a.symbols (Heads.sits_part takes prods rank weight fits n) (of_plain carrier n a (made n) i)) h.0 h.1
 
   sits_after : (p q : Symbols) → Sits (p ++ q) → Sits q
   sits_after [] q h = h

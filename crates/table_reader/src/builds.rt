@@ -2,7 +2,7 @@
 
 ghost use Rattle.std.specs.Prelude.{◌≡◌, ℕ, List, reverse, IfOk, OnOk};
 ghost use Rattle.table_reader.specs.declared.item.Item.{Item};
-ghost use Rattle.table_reader.specs.Building.{CanBuild, MakesBy};
+ghost use Rattle.table_reader.specs.Building.{CanBuild, IsBuilt};
 ghost use Rattle.table_reader.specs.Reading.{Made, plain};
 
 use crate::grammar::Grammar;
@@ -14,12 +14,14 @@ use std::alloc::Global;
 ///
 /// A language gives `carrier` and, for each part, one function for each of its productions, in order,
 /// typed by the values of its symbols: `makes`, of type `Makes` (specs/Making.antt). Then `made` is
-/// `made_by` of them and `same_productions` is `same_made`. A `Value` is an enum with one variant for
-/// each type that parts carry, and `held` puts a part's value into its variant. In `build` a `match`
-/// on the part, and on the place where there are several productions, calls a function for each
-/// production; it takes the values off, the last first (an item of another variant can't stand
-/// there: `unreachable!()`), and gives what `makes` says. At a known part and place `CanBuild` and
-/// `MakesBy` compute to the values of that production's symbols.
+/// `made_by` of them, and `same_productions` is `same_made`. A `Value` is an enum with one variant for
+/// each type that parts carry, and `held` puts a part's value into its variant.
+///
+/// In code a function for each variant takes such a value off the stack (an item of another variant
+/// can't stand there: `unreachable!()`), and a function for each production takes off the values of
+/// its symbols, the last first, and gives what `makes` says: it requires `CanBuild` and ensures
+/// `IsBuilt` at its part and place, where both compute to the values of its symbols. `build` matches
+/// on the part and the place; `can_build_at` and `built_at` (specs/Building.antt) take each arm there.
 pub trait Builds: Grammar {
     type Value: Drop;
 
@@ -45,7 +47,7 @@ pub trait Builds: Grammar {
         values: &mut List<Item<Self::Lexeme, Self::Value>>,
     ) -> Result<Self::Value, NoMem>
         requires { CanBuild carrier held part (made part) index (reverse values.old) }
-        ensures { IfOk result (λ it. (value : Self.Value) (below : List (Item Self.Lexeme Self.Value)) → MakesBy carrier held part (made part) index (reverse values.old) value below → (it ≡ value) × (reverse values.new ≡ below)) };
+        ensures { IfOk result (λ it. IsBuilt carrier held part (made part) index (reverse values.old) it (reverse values.new)) };
 
     /// The productions are those of the grammar.
     ghost same_productions: { (n : Self.Part) → plain carrier n (made n) ≡ Self.productions n };

@@ -2,9 +2,9 @@
 use Rattle.std.proofs.Common.{◌≡◌, ℕ, ◌+◌, ◌<◌, ◌≤◌, List, [], ◌∷◌, ◌++◌, length, map, ap, sym, subst, subst₂, ◌∙◌, arith, append_assoc, append-nil, length-append, eq-eqb, Bool, get_or, slice_set}
 use Rattle.std.proofs.lemmas.List.{length-map}
 use Rattle.std.proofs.lemmas.List.FromFn.{length-map-range_with_len, get_or-map-range_with_len}
-use Rattle.std.proofs.lemmas.Option.{slice_get-get_or}
+use Rattle.std.proofs.lemmas.Option.{slice_get-get_or, slice_get-map}
 use Rattle.std.specs.Prelude.{slice_get, Option, Some, ℤ, pos, if◌then◌else◌}
-use Rattle.std.specs.Option.{option_and_then}
+use Rattle.std.specs.Option.{option_map, option_and_then}
 use Rattle.aen_base.specs.declared.span.Span.{Span}
 use Rattle.pure_ast.specs.Code.{last}
 use Rattle.pure_ast.specs.declared.comp.Comp.TheVariants as C
@@ -14,6 +14,8 @@ use Rattle.source_meaning.specs.Memory.{MTree, Cell, Memory, holds, write_cell, 
 use Rattle.source_meaning.specs.Machine as m
 use Rattle.source_meaning.specs.Machine.{Ran, gives, panics, more, stuck, Call, run, run_body, run_block, wrote, left, frame_from, made_cells, entered}
 use Rattle.source_meaning.specs.Typing.{IsTypedExpr, IsTypedBody, IsTypedBlock, IsTypedFunction}
+use Rattle.source_meaning.specs.FrameLemmas.{frame, whole_memory, made_size, made_held, made_empty, frame_dropped}
+use Rattle.source_meaning.specs.TypingLemmas.{typed_within}
 use Rattle.text_meaning.specs.declared.Answer.TheVariants as A
 use Rattle.text_meaning.specs.Environment.{arguments}
 use Rattle.text_meaning.specs.Evaluate.{Calls, code_answer, or_stuck}
@@ -22,15 +24,8 @@ use Rattle.translate.specs.declared.atom.Atom.TheVariants as At
 use Rattle.translate.specs.Emit.{term_of, Emitted, followed, emit, emit_body, emit_block, chain, finished, parameter_atoms, emitted}
 use Rattle.translate.proofs.Environments.{tree, value, env, AtomIs, term_is}
 use Rattle.translate.proofs.Chains.{Reached, Ends, reached_join, ends_first, ends_then, next_variable}
-use Rattle.translate.proofs.Frames.{Fits, frame, whole_memory, variable_write, fits_more, fits_let, made_size, made_held, made_empty, dropped}
+use Rattle.translate.proofs.Frames.{Fits, variable_write, fits_more, fits_let}
 use Rattle.translate.proofs.Expressions.{CallAgrees, Same, Follows, follows}
-
--- a typed body declares no more than the function's variables
-typed_within : (earlier : List Function) (total count : ℕ) (stmts : Stmts) (final : MaybeExpr) → IsTypedBody earlier total count stmts final → count ≤ total
-typed_within earlier total count no_stmts no_maybeexpr h = absurd h
-typed_within earlier total count no_stmts (some_maybeexpr e) (same, typed) = omega arith
-typed_within earlier total count (more_stmts (bind s k e) rest) final (is, typed, after) =
-    let h = typed_within earlier total (count + 1) rest final after in omega arith
 
 module _ (functions : List Function) (c : Call) (d : Calls) (same : Same functions c d) (old : Memory) (variables : List (List ℕ))
     (earlier : List Function) (known_ : (k : ℕ) (g : Function) → slice_get earlier k ≡ Some g → slice_get functions k ≡ Some g) where
@@ -133,7 +128,7 @@ module _ (functions : List Function) (c : Call) (d : Calls) (same : Same functio
     g.z,
     drop_frame (frame_from 0 variables) g.above,
     g.tree,
-    ap (drop_frame (frame old variables)) g.memory ∙ dropped variables old g.above (length old) 0 (omega arith),
+    ap (drop_frame (frame old variables)) g.memory ∙ frame_dropped old variables g.above,
     ap (λ k. code_answer d (env vs) (chain k e.comps (last (C.Ok (term_of e.atom))))) is
         ∙ g.reached.runs (last (C.Ok (term_of e.atom)))
         ∙ ap (λ o. or_stuck o A.Ok) (term_is (vs ++ g.ws) e.atom g.z g.atom),
@@ -153,6 +148,7 @@ pub fits_start : (variables : List (List ℕ)) (count : ℕ) (zs : List ℤ) →
     Fits variables (made_cells variables (map tree zs)) (parameter_atoms count) zs
 fits_start variables count zs e le =
     let len = length-map-range_with_len At.Variable 0 count in
+    let trees = length-map zs tree in
     record {
       size = made_size variables (map tree zs);
       each = λ k h. let below : k < count = omega arith in
@@ -161,11 +157,11 @@ fits_start variables count zs e le =
           record {
             z = z;
             atom = At.Variable k;
-            cell = made_held variables zs k z (omega arith) is;
+            cell = made_held variables (map tree zs) k (tree z) (omega arith) (slice_get-map tree zs k ∙ ap (option_map tree) is);
             is = parameter_atom count k below;
             means = is;
           };
-      fresh = λ k low high. made_empty variables zs k (omega arith) high;
+      fresh = λ k low high. made_empty variables (map tree zs) k (omega arith) high;
     }
 
 pub function_agrees : (functions : List Function) (c : Call) (d : Calls) → Same functions c d → (earlier : List Function) →

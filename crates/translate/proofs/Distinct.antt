@@ -11,7 +11,7 @@ use Rattle.text_meaning.specs.Lists.{Each, Differ}
 use Rattle.text_meaning.specs.Names.{IsName}
 use Rattle.text_meaning.specs.WellFormed.{function_of, AreInOrder}
 use Rattle.translate.specs.Emit.{definitions}
-use Rattle.translate.proofs.Items.{map_push}
+use Rattle.std.proofs.lemmas.List.{map_push}
 use Rattle.translate.proofs.Names.{name_is}
 
 abbrev names_of : List Function → List (List ℕ)

@@ -1,5 +1,6 @@
 -- The text's environment when its variables are numbered in order: variable k has value k.
 use Rattle.std.proofs.Common.{◌≡◌, ℕ, zero, suc, ◌+◌, ◌<◌, List, [], ◌∷◌, ◌++◌, length, map, refl, ap, sym, ◌∙◌, arith, eq-eqb, ne_eqb}
+use Rattle.std.proofs.lemmas.List.{length-map, map_push}
 use Rattle.std.proofs.lemmas.Option.{slice_get-map}
 use Rattle.std.specs.Prelude.{◌==◌, slice_get, Some, None, ℤ, if◌then◌else◌}
 use Rattle.std.specs.Option.{option_map, option_or}
@@ -9,12 +10,12 @@ use Rattle.aen_base.specs.declared.int_ty.IntTy.TheVariants.{U32}
 use Rattle.pure_ast.specs.Values as v
 use Rattle.pure_ast.specs.Values.{PValue}
 use Rattle.source_meaning.specs.Memory.{MTree, num}
+use Rattle.source_meaning.specs.PlaceLemmas.{get_left_some}
 use Rattle.text_meaning.specs.Environment.{Environment, lookup, numbered, arguments, with_value}
 use Rattle.text_meaning.specs.Terms.{term_value}
 use Rattle.translate.specs.declared.atom.Atom.{Atom}
 use Rattle.translate.specs.declared.atom.Atom.TheVariants as A
 use Rattle.translate.specs.Emit.{term_of}
-use Rattle.translate.proofs.Places.{get_left_some}
 
 -- a u32 on each side
 abbrev pub whole : ℤ → Number
@@ -58,19 +59,11 @@ numbered_more : (j : ℕ) (values : List PValue) (a : PValue) (n : ℕ) → n �
 numbered_more j [] a n e = let same : j ≡ n = omega arith in ap (λ i. (i, a) ∷ []) same
 numbered_more j (x ∷ values) a n e = ap (λ l. (j, x) ∷ l) (numbered_more (suc j) values a n (omega arith))
 
-map_last : (vs : List ℤ) (z : ℤ) → map value (vs ++ z ∷ []) ≡ map value vs ++ value z ∷ []
-map_last [] z = refl
-map_last (x ∷ vs) z = ap (λ l. value x ∷ l) (map_last vs z)
-
-map_length : (vs : List ℤ) → length (map value vs) ≡ length vs
-map_length [] = refl
-map_length (x ∷ vs) = ap suc (map_length vs)
-
 -- the environment after the next variable has its value
 pub env_more : (vs : List ℤ) (z : ℤ) → with_value (env vs) (length vs) (value z) ≡ env (vs ++ z ∷ [])
 env_more vs z =
-    let e = map_length vs in
-    sym (ap (numbered 0) (map_last vs z) ∙ numbered_more 0 (map value vs) (value z) (length vs) (omega arith))
+    let e = length-map vs value in
+    sym (ap (numbered 0) (map_push value vs z) ∙ numbered_more 0 (map value vs) (value z) (length vs) (omega arith))
 
 pub term_is : (vs : List ℤ) (a : Atom) (z : ℤ) → AtomIs vs a z → term_value (env vs) (term_of a) ≡ Some (value z)
 term_is vs (A.Variable k) z h = lookup_value vs k z h

@@ -19,6 +19,8 @@ use Rattle.source_meaning.specs.Memory.{MTree, num, Cell, Memory}
 use Rattle.source_meaning.specs.Machine as m
 use Rattle.source_meaning.specs.Machine.{Ran, gives, panics, more, stuck, Call, run, run_all, found, operate, operated}
 use Rattle.source_meaning.specs.Typing.{IsTypedExpr, AreTypedExprs}
+use Rattle.source_meaning.specs.PlaceLemmas.{get_right}
+use Rattle.source_meaning.specs.FrameLemmas.{frame, whole_memory, frame_more}
 use Rattle.text_meaning.specs.declared.Answer.{Answer}
 use Rattle.text_meaning.specs.declared.Answer.TheVariants as A
 use Rattle.text_meaning.specs.Terms.{term_values}
@@ -26,10 +28,10 @@ use Rattle.text_meaning.specs.Primitives.{primitive, answered}
 use Rattle.text_meaning.specs.Evaluate.{Calls, comp_answer, or_stuck}
 use Rattle.translate.specs.declared.atom.Atom.{Atom}
 use Rattle.translate.specs.Emit.{term_of, known, Emitted, computed, operation, emit, emit_all}
-use Rattle.translate.proofs.Places.{get_right, get_last}
+use Rattle.translate.proofs.Places.{get_last}
 use Rattle.translate.proofs.Environments.{whole, tree, value, env, AtomIs, term_is, atom_more}
 use Rattle.translate.proofs.Chains.{Reached, Ends, reached_none, reached_join, reached_one, ends_one, ends_first, ends_then, next_variable}
-use Rattle.translate.proofs.Frames.{Fits, frame, whole_memory, variable_read, fits_more}
+use Rattle.translate.proofs.Frames.{Fits, variable_read, fits_more}
 
 -- a call on the machine, in this memory, and a call of the text come to the same
 abbrev pub CallAgrees : Memory → Ran → Answer → Type 0
@@ -135,7 +137,7 @@ module _ (functions : List Function) (c : Call) (d : Calls) (same : Same functio
   call_by cells n vs ws comps last above (gives tr m1) a e r h (z, more_, th, mh, ah) =
       subst₂ (λ (u : MTree) (k : Memory). Gave cells vs (computed n comps last) u k)
       (sym th)
-      (sym (mh ∙ append_assoc old (cells ++ above) more_ ∙ ap (λ l. old ++ l) (append_assoc cells above more_)))
+      (sym (mh ∙ frame_more old variables cells above more_))
       (computed_gave cells n vs ws comps last z (above ++ more_) e r (h ∙ ah))
   call_by cells n vs ws comps last above (panics kind) a e r h g = computed_fails vs ws comps last kind r (h ∙ g)
   call_by cells n vs ws comps last above more a e r h g = computed_ends vs ws comps last r (h ∙ g)

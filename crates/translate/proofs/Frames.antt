@@ -1,12 +1,13 @@
--- The machine's memory at a call: what was there before, the cells of the frame, and what came after.
-use Rattle.std.proofs.Common.{◌≡◌, ℕ, zero, suc, ◌+◌, ◌<◌, ◌≤◌, List, [], ◌∷◌, ◌++◌, length, map, refl, ap, ◌∙◌, arith, length-append, length-set, inl, inr, ⊎_elim, ◌⊎◌}
+-- The machine's memory at a call and the atoms of the declared variables.
+use Rattle.std.proofs.Common.{◌≡◌, ℕ, zero, suc, ◌+◌, ◌<◌, ◌≤◌, List, [], ◌∷◌, ◌++◌, length, refl, ap, ◌∙◌, arith, length-append, length-set, inl, inr, ⊎_elim, ◌⊎◌}
 use Rattle.std.proofs.lemmas.Option.{slice_get_within}
-use Rattle.std.specs.Prelude.{slice_get, slice_set, Option, Some, None, ℤ, option_and_then}
-use Rattle.source_meaning.specs.Memory.{MTree, Cell, empty, gone, holds, held, Memory, read_cell, write_cell, write_to, drop_frame}
-use Rattle.source_meaning.specs.Machine.{Frame, frame_from, made_cells}
+use Rattle.std.specs.Prelude.{slice_get, slice_set, Some, ℤ, option_and_then}
+use Rattle.source_meaning.specs.Memory.{MTree, Cell, empty, holds, Memory, read_cell, write_cell}
+use Rattle.source_meaning.specs.PlaceLemmas.{get_left_some}
+use Rattle.source_meaning.specs.FrameLemmas.{frame, whole_memory, frame_read, frame_write}
 use Rattle.translate.specs.declared.atom.Atom.{Atom}
 use Rattle.translate.proofs.Environments.{tree, AtomIs, atom_more}
-use Rattle.translate.proofs.Places.{get_left, get_left_some, get_right, set_left, set_right, get_set_same, get_set_below, get_set_above, get_last}
+use Rattle.translate.proofs.Places.{get_set_same, get_set_below, get_set_above, get_last}
 
 -- variable k has one value in its cell and in its atom
 pub record Declared (cells : List Cell) (atoms : List Atom) (vs : List ℤ) (k : ℕ) : Type 0 where
@@ -22,45 +23,22 @@ pub record Fits (variables : List (List ℕ)) (cells : List Cell) (atoms : List 
   pub each : (k : ℕ) → k < length atoms → Declared cells atoms vs k
   pub fresh : (k : ℕ) → length atoms ≤ k → k < length variables → slice_get cells k ≡ Some empty
 
-pub frame_get : (variables : List (List ℕ)) (n k : ℕ) → k < length variables → slice_get (frame_from n variables) k ≡ Some (n + k)
-frame_get [] n k h = absurd (omega arith)
-frame_get (v ∷ variables) n zero h = let e : n ≡ n + 0 = omega arith in ap Some e
-frame_get (v ∷ variables) n (suc k) h =
-    let e : n + 1 + k ≡ n + suc k = omega arith in
-    frame_get variables (n + 1) k (omega arith) ∙ ap Some e
-
 module _ (old : Memory) (variables : List (List ℕ)) where
-  abbrev pub frame : Frame
-  frame = frame_from (length old) variables
-
-  abbrev pub whole_memory : List Cell → Memory → Memory
-  whole_memory cells more = old ++ (cells ++ more)
-
-  cell_get : (cells : List Cell) (more : Memory) (k : ℕ) → k < length cells → slice_get (whole_memory cells more) (length old + k) ≡ slice_get cells k
-  cell_get cells more k h = get_right old (cells ++ more) k ∙ get_left cells more k h
-
   -- reading a declared variable
   pub variable_read : (cells : List Cell) (more : Memory) (atoms : List Atom) (vs : List ℤ) (k : ℕ) → Fits variables cells atoms vs →
-      (d : Declared cells atoms vs k) → option_and_then (read_cell (whole_memory cells more)) (slice_get frame k) ≡ Some (tree d.z)
+      (d : Declared cells atoms vs k) → option_and_then (read_cell (whole_memory old variables cells more)) (slice_get (frame old variables) k) ≡ Some (tree d.z)
   variable_read cells more atoms vs k fits d =
       let below = slice_get_within cells k (holds (tree d.z)) d.cell in
       let size = fits.size in
-      ap (option_and_then (read_cell (whole_memory cells more))) (frame_get variables (length old) k (omega arith))
-      ∙ ap (option_and_then held) (cell_get cells more k below ∙ d.cell)
+      frame_read old variables cells more k (tree d.z) (omega arith) d.cell
 
   -- writing the next variable
   pub variable_write : (cells : List Cell) (more : Memory) (atoms : List Atom) (vs : List ℤ) (t : MTree) → Fits variables cells atoms vs →
       length atoms < length variables →
-      option_and_then (λ a. write_cell (whole_memory cells more) a t) (slice_get frame (length atoms))
-      ≡ Some (whole_memory (slice_set cells (length atoms) (holds t)) more)
+      option_and_then (λ a. write_cell (whole_memory old variables cells more) a t) (slice_get (frame old variables) (length atoms))
+      ≡ Some (whole_memory old variables (slice_set cells (length atoms) (holds t)) more)
   variable_write cells more atoms vs t fits below =
-      let size = fits.size in
-      let within : length atoms < length cells = omega arith in
-      ap (option_and_then (λ a. write_cell (whole_memory cells more) a t)) (frame_get variables (length old) (length atoms) below)
-      ∙ ap (write_to (whole_memory cells more) (length old + length atoms) t)
-      (cell_get cells more (length atoms) within ∙ fits.fresh (length atoms) (omega arith) below)
-      ∙ ap Some (set_right old (cells ++ more) (length atoms) (holds t)
-      ∙ ap (λ l. old ++ l) (set_left cells more (length atoms) (holds t) within))
+      frame_write old variables cells more (length atoms) t below (fits.fresh (length atoms) (omega arith) below)
 
 -- more values do not matter to what is declared
 pub fits_more : (variables : List (List ℕ)) (cells : List Cell) (atoms : List Atom) (vs ws : List ℤ) → Fits variables cells atoms vs → Fits variables cells atoms (vs ++ ws)
@@ -111,36 +89,3 @@ fits_let variables cells atoms vs a z f below means =
           (below_or_last k (length atoms) (omega arith));
       fresh = λ k low high. get_set_above cells (length atoms) (holds (tree z)) k (omega arith) ∙ f.fresh k (omega arith) high;
     }
-
--- at a call the parameters' cells hold the arguments
-pub made_size : (variables : List (List ℕ)) (args : List MTree) → length (made_cells variables args) ≡ length variables
-made_size [] args = refl
-made_size (v ∷ variables) [] = ap suc (made_size variables [])
-made_size (v ∷ variables) (a ∷ args) = ap suc (made_size variables args)
-
-abbrev option_held : Option ℤ → Option Cell
-option_held None = None
-option_held (Some z) = Some (holds (tree z))
-
-pub made_held : (variables : List (List ℕ)) (zs : List ℤ) (k : ℕ) (z : ℤ) → length zs ≤ length variables → slice_get zs k ≡ Some z →
-    slice_get (made_cells variables (map tree zs)) k ≡ Some (holds (tree z))
-made_held variables [] k z le h = cc
-made_held [] (x ∷ zs) k z le h = absurd (omega arith)
-made_held (v ∷ variables) (x ∷ zs) zero z le h = ap (λ (o : Option ℤ). option_held o) h
-made_held (v ∷ variables) (x ∷ zs) (suc k) z le h = made_held variables zs k z (omega arith) h
-
-pub made_empty : (variables : List (List ℕ)) (zs : List ℤ) (k : ℕ) → length zs ≤ k → k < length variables →
-    slice_get (made_cells variables (map tree zs)) k ≡ Some empty
-made_empty [] zs k low high = absurd (omega arith)
-made_empty (v ∷ variables) [] zero low high = refl
-made_empty (v ∷ variables) [] (suc k) low high = made_empty variables [] k (omega arith) (omega arith)
-made_empty (v ∷ variables) (x ∷ zs) zero low high = absurd (omega arith)
-made_empty (v ∷ variables) (x ∷ zs) (suc k) low high = made_empty variables zs k (omega arith) (omega arith)
-
--- a frame's end changes nothing below it
-pub dropped : (variables : List (List ℕ)) (old above : Memory) (n j : ℕ) → n ≡ length old + j → drop_frame (frame_from n variables) (old ++ above) ≡ old ++ drop_frame (frame_from j variables) above
-dropped [] old above n j e = refl
-dropped (v ∷ variables) old above n j e =
-    ap (λ (i : ℕ). drop_frame (frame_from (n + 1) variables) (slice_set (old ++ above) i gone)) e
-    ∙ ap (drop_frame (frame_from (n + 1) variables)) (set_right old above j gone)
-    ∙ dropped variables old (slice_set above j gone) (n + 1) (j + 1) (omega arith)

@@ -1,14 +1,8 @@
 -- Arguments one by one.
-use Rattle.std.proofs.Common.{◌≡◌, ℕ, zero, suc, ◌+◌, ◌<◌, List, [], ◌∷◌, ◌++◌, length, map, get_or, take, drop, refl, ap, ◌∙◌, sym, arith}
+use Rattle.std.proofs.Common.{◌≡◌, ℕ, zero, suc, ◌+◌, ◌<◌, List, [], ◌∷◌, ◌++◌, length, get_or, take, drop, refl, ap, ◌∙◌, sym, arith}
 use Rattle.sums_ast.specs.declared.function.Function.{Function}
 use Rattle.text_meaning.specs.Lists.{Each}
 use Rattle.translate.specs.Emit.{definition, definitions}
-use Rattle.sums_ast.specs.Tree.{Expr, exprs, nodes_expr, nodes_exprs}
-
-pub exprs_item : (xs : List Expr) (i : ℕ) (x : Expr) → i < length xs → x ≡ get_or xs i x → nodes_expr x < nodes_exprs (exprs xs)
-exprs_item [] i x h e = absurd (omega arith)
-exprs_item (y ∷ xs) zero x h e = let size = ap nodes_expr e in omega arith
-exprs_item (y ∷ xs) (suc i) x h e = omega (arith, exprs_item xs i x (omega arith) e)
 
 pub drop_item : {X : Type 0} (xs : List X) (i : ℕ) (x : X) → i < length xs → x ≡ get_or xs i x → drop i xs ≡ x ∷ drop (i + 1) xs
 drop_item [] i x h e = absurd (omega arith)
@@ -29,10 +23,6 @@ take_item (y ∷ xs) zero x h e = ap (λ z. z ∷ []) (sym e)
 take_item (y ∷ xs) (suc i) x h e =
     let one : suc i + 1 ≡ suc (i + 1) = omega arith in
     ap (λ j. take j (y ∷ xs)) one ∙ ap (λ l. y ∷ l) (take_item xs i x (omega arith) e)
-
-pub map_push : {X Y : Type 0} (f : X → Y) (xs : List X) (x : X) → map f (xs ++ x ∷ []) ≡ map f xs ++ f x ∷ []
-map_push f [] x = refl
-map_push f (y ∷ xs) x = ap (λ l. f y ∷ l) (map_push f xs x)
 
 pub each_push : {X : Type 0} (P : X → Type 0) (xs : List X) (x : X) → Each P xs → P x → Each P (xs ++ x ∷ [])
 each_push P [] x h hx = (hx, tt)

@@ -5,7 +5,6 @@ pub mod Frames
 pub mod Expressions
 pub mod Bodies
 pub mod Meaning
-pub mod Spines
 pub mod Items
 pub mod Steps
 pub mod Statements

@@ -1,10 +1,9 @@
 -- The translation lists the program's functions, and means the program.
-use Rattle.std.proofs.Common.{◌≡◌, ℕ, zero, suc, ◌+◌, List, [], ◌∷◌, ◌++◌, length, map, refl, ap, sym, subst, subst₂, ◌∙◌, arith, append_assoc}
+use Rattle.std.proofs.Common.{◌≡◌, ℕ, zero, suc, ◌+◌, List, [], ◌∷◌, length, map, refl, ap, sym, subst, subst₂, ◌∙◌, arith}
 use Rattle.std.proofs.lemmas.Option.{same_Some}
 use Rattle.std.proofs.lemmas.List.{length-map}
 use Rattle.std.specs.Prelude.{slice_get, Option, Some, ℤ, pos}
 use Rattle.std.specs.Option.{option_map}
-use Rattle.aen_base.specs.declared.span.Span.{Span}
 use Rattle.pure_ast.specs.Values as v
 use Rattle.pure_ast.specs.Values.{PValue}
 use Rattle.pure_ast.specs.declared.def.DefKind.{DefKind}
@@ -12,10 +11,12 @@ use Rattle.pure_ast.specs.declared.def.DefKind.TheVariants as K
 use Rattle.pure_ast.specs.declared.def.Def.{Def}
 use Rattle.sums_ast.specs.declared.function.Function.{Function}
 use Rattle.sums_ast.specs.declared.function.Program.{Program}
-use Rattle.source_meaning.specs.Memory.{MTree, Memory}
+use Rattle.source_meaning.specs.Memory.{MTree}
 use Rattle.source_meaning.specs.Machine as m
 use Rattle.source_meaning.specs.Machine.{Ran, gives, panics, more, stuck, call_at}
-use Rattle.source_meaning.specs.Typing.{IsTypedFunction, AreTyped, IsTyped}
+use Rattle.source_meaning.specs.Typing.{IsTyped}
+use Rattle.source_meaning.specs.TypingLemmas.{typed_at}
+use Rattle.source_meaning.specs.CallLemmas.{call_empty, call_more}
 use Rattle.source_meaning.specs.Calling.{trees_of, outcome_of, begun, call_outcome, IsU32Value, AreU32Values}
 use Rattle.text_meaning.specs.declared.Answer.{Answer}
 use Rattle.text_meaning.specs.Evaluate as p
@@ -23,7 +24,6 @@ use Rattle.text_meaning.specs.Evaluate.{Calls, evaluate, evaluate_empty, evaluat
 use Rattle.translate.specs.Lists.{AreForward, Lists}
 use Rattle.translate.specs.Means.{Agrees, Means}
 use Rattle.translate.specs.Emit.{definition, definitions, translation}
-use Rattle.translate.proofs.Places.{get_left_some}
 use Rattle.translate.proofs.Environments.{tree, value}
 use Rattle.translate.proofs.Expressions.{CallAgrees, Same}
 use Rattle.translate.proofs.Bodies.{function_agrees}
@@ -43,25 +43,6 @@ definitions_got k (g ∷ fs) zero d j e h =
     let same : k ≡ j = omega arith in
     (g, refl, sym (same_Some (definition k g) d h) ∙ ap (λ i. definition i g) same)
 definitions_got k (g ∷ fs) (suc i) d j e h = definitions_got (k + 1) fs i d j (omega arith) h
-
--- a function of a typed program calls functions of the program
-pub typed_at : (earlier fs : List Function) (k : ℕ) (f : Function) → AreTyped earlier fs → slice_get fs k ≡ Some f →
-    (before : List Function) × IsTypedFunction before f × ((j : ℕ) (g : Function) → slice_get before j ≡ Some g → slice_get (earlier ++ fs) j ≡ Some g)
-typed_at earlier [] k f typed h = absurd (cc)
-typed_at earlier (x ∷ fs) zero f (typed, rest) h =
-    (earlier, subst (IsTypedFunction earlier) (same_Some x f h) typed, λ j g e. get_left_some earlier (x ∷ fs) j g e)
-typed_at earlier (x ∷ fs) (suc k) f (typed, rest) h =
-    let (before, is, known_) = typed_at (earlier ++ x ∷ []) fs k f rest h in
-    (before, is, λ j g e. ap (λ l. slice_get l j) (sym (append_assoc earlier (x ∷ []) fs)) ∙ known_ j g e)
-
-call_empty : (p0 : Program) (s : Span) (k : ℕ) (args : List MTree) (m0 : Memory) → call_at p0 zero s k args m0 ≡ more
-unfolding call_at
-call_empty p0 s k args m0 = refl
-
-call_more : (p0 : Program) (n : ℕ) (s : Span) (k : ℕ) (args : List MTree) (m0 : Memory) →
-    call_at p0 (suc n) s k args m0 ≡ m.entered (call_at p0 n) s (slice_get p0.functions k) args m0
-unfolding call_at
-call_more p0 n s k args m0 = refl
 
 -- calls at every bound
 pub all_same : (p0 : Program) → IsTyped p0 → (n : ℕ) → Same p0.functions (call_at p0 n) (λ e parts. evaluate (translation p0) e parts n)

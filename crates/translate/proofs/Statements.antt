@@ -1,6 +1,7 @@
 -- The statements of a body one by one.
 use Rattle.std.proofs.Common.{◌≡◌, ℕ, zero, suc, ◌+◌, ◌<◌, ◌^◌, List, [], ◌∷◌, ◌++◌, length, map, drop, replicate, refl, ap, sym, subst, ◌∙◌, arith, append_assoc, append-nil, length-append}
 use Rattle.std.specs.List.{range_with_len}
+use Rattle.std.proofs.lemmas.List.FromFn.{map-range_with_len_more}
 use Rattle.pure_ast.specs.declared.comp.Comp.{Comp}
 use Rattle.sums_ast.specs.Tree.{Stmt, bind, stmts, no_stmts, MaybeExpr}
 use Rattle.translate.specs.declared.atom.Atom.{Atom}
@@ -71,14 +72,8 @@ replicate_more (suc n) x =
     let e : suc n + 1 ≡ suc (n + 1) = omega arith in
     ap (λ k. replicate k x) e ∙ ap (λ l. x ∷ l) (replicate_more n x)
 
-range_more : {X : Type 0} (f : ℕ → X) (from n at : ℕ) → at ≡ from + n → map f (range_with_len from (n + 1)) ≡ map f (range_with_len from n) ++ f at ∷ []
-range_more f from zero at e = let same : from ≡ at = omega arith in ap (λ k. f k ∷ []) same
-range_more f from (suc n) at e =
-    let one : suc n + 1 ≡ suc (n + 1) = omega arith in
-    ap (λ k. map f (range_with_len from k)) one ∙ ap (λ l. f from ∷ l) (range_more f (from + 1) n at (omega arith))
-
 pub numbered_more : {X : Type 0} (f : ℕ → X) (n : ℕ) → map f (range_with_len 0 (n + 1)) ≡ map f (range_with_len 0 n) ++ f n ∷ []
-numbered_more f n = range_more f 0 n n (omega arith)
+numbered_more f n = map-range_with_len_more f 0 n n (omega arith)
 
 pub numbered_by : (f : Function) (n m : ℕ) (atoms : List Atom) → n ≡ f.parameters → atoms ≡ parameter_atoms f.parameters →
     m ≡ n + length (emit_block n atoms f.body).comps → m < 2 ^ 32 → IsNumbered f

@@ -6,8 +6,8 @@ use Rattle.pure_ast.specs.Terms.{Term}
 use Rattle.pure_ast.specs.declared.comp.Comp.{Comp}
 use Rattle.sums_ast.specs.Tree.{Expr, exprs, nodes_expr}
 use Rattle.translate.specs.declared.spine.Right.{Right}
-use Rattle.translate.specs.Spine.{rights_emitted, AreBelow}
-use Rattle.translate.proofs.Spines.{rights_push}
+use Rattle.source_meaning.specs.SpineLemmas.{rights_push, below_last}
+use Rattle.translate.specs.Spine.{rights_emitted, with_side, right_side, AreBelow}
 use Rattle.translate.specs.declared.atom.Atom.{Atom}
 use Rattle.translate.specs.declared.atom.Atom.TheVariants as A
 use Rattle.translate.specs.declared.emitter.Emitter.{Emitter}
@@ -52,15 +52,11 @@ pub record Along (old new : Emitter) (atoms : List Atom) (expr : Expr) (rights :
   pub done : Emitted
   pub adds : Adds old new done atom
   pub whole : rights_emitted old.next atoms done rights ≡ emit old.next atoms expr
-  pub below : AreBelow (nodes_expr expr) rights
-
-below_pop : (n : ℕ) (rights : List Right) (r : Right) → AreBelow n (rights ++ r ∷ []) → AreBelow n rights × (nodes_expr r.side.now < n)
-below_pop n [] r (lt, h) = (tt, lt)
-below_pop n (x ∷ rights) r (lt, h) = let (below, last) = below_pop n rights r h in ((lt, below), last)
+  pub below : AreBelow right_side (nodes_expr expr) rights
 
 pub along_last : (old new : Emitter) (atoms : List Atom) (expr : Expr) (rights before : List Right) (r : Right) (atom : Atom) →
     rights ≡ before ++ r ∷ [] → Along old new atoms expr rights atom → nodes_expr r.side.now < nodes_expr expr
-along_last old new atoms expr rights before r atom e h = (below_pop (nodes_expr expr) before r (subst (AreBelow (nodes_expr expr)) e h.below)).1
+along_last old new atoms expr rights before r atom e h = (below_last right_side (nodes_expr expr) rights before r e h.below).1
 
 pub along_next : (old mid new : Emitter) (atoms : List Atom) (expr : Expr) (rights before : List Right) (r : Right) (atom next : Atom) →
     rights ≡ before ++ r ∷ [] → Along old mid atoms expr rights atom →
@@ -73,8 +69,8 @@ along_next old mid new atoms expr rights before r atom next e h step =
           (right_joined old.next mid.next r.op h.done (right mid.next) atom h.adds.next h.adds.atom
           ∙ ap (λ m. operated old.next r.op h.done (right m)) h.adds.next)
           (adds_then old mid new h.done (right_emitted mid.next atom r.op (right mid.next)) atom next h.adds step);
-      whole = sym (rights_push old.next atoms h.done before r) ∙ ap (rights_emitted old.next atoms h.done) (sym e) ∙ h.whole;
-      below = (below_pop (nodes_expr expr) before r (subst (AreBelow (nodes_expr expr)) e h.below)).0;
+      whole = sym (rights_push (with_side old.next atoms) h.done before r) ∙ ap (rights_emitted old.next atoms h.done) (sym e) ∙ h.whole;
+      below = (below_last right_side (nodes_expr expr) rights before r e h.below).0;
     }
 
 -- arguments of which those before place i are emitted

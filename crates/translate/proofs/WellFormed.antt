@@ -30,7 +30,7 @@ use Rattle.translate.specs.Lists.{u32_type}
 use Rattle.translate.specs.Emit.{term_of, known, Emitted, EmittedAll, operation, emit, emit_all, emit_body, emit_block, chain, emitted, parameter_atoms, definition, definitions, translation}
 use Rattle.translate.specs.Adds.{IsNumbered, AreNumbered}
 use Rattle.translate.proofs.Items.{each_push}
-use Rattle.translate.proofs.Places.{get_left_some}
+use Rattle.source_meaning.specs.PlaceLemmas.{get_left_some}
 use Rattle.translate.proofs.Meaning.{definitions_get}
 use Rattle.translate.proofs.Distinct.{names_are, names_differ, kinds_differ, in_order}
 

@@ -1,11 +1,14 @@
 use Rattle.std.proofs.Common.{◌-◌, sym, ap, subst, ◌∙◌, arith}
 use Rattle.std.specs.Prelude.{slice_get}
 use Rattle.sums_ast.specs.Tree.{nodes_expr}
+use Rattle.source_meaning.specs.SizeLemmas.{exprs_item}
+use Rattle.source_meaning.specs.SpineLemmas.{below_last}
 use Rattle.pointer_machine.specs.Values as spec
+use Rattle.pointer_machine.specs.Spine as spine
 use Rattle.pointer_machine.specs.Given.{Gives}
 use Rattle.pointer_machine.proofs.Runs.{value_zero, value_past}
-use Rattle.pointer_machine.proofs.Sizes.{exprs_item, stmts_item, body_falls}
-use Rattle.pointer_machine.proofs.Rights.{first_fails, side_fails, operator_fails, operator_gives, below_last, passed_on}
+use Rattle.pointer_machine.proofs.Sizes.{stmts_item, body_falls}
+use Rattle.pointer_machine.proofs.Rights.{first_fails, side_fails, operator_fails, operator_gives, passed_on}
 use Rattle.pointer_machine.proofs.calls.+calls.Goals as goal
 
 pub arguments-expression-requires : goal.arguments-expression-requires
@@ -51,7 +54,7 @@ expression-returns-in_err-value t c =
 
 pub expression-expression-requires : goal.expression-expression-requires
 expression-expression-requires t c =
-    let h = (below_last (nodes_expr c.args.expr.now) c.loop-right.rights c.pop.new.self c.in-Some.right c.in-Some.ensures c.loop-right.invariant.below).1 in
+    let h = (below_last spine.right_side (nodes_expr c.args.expr.now) c.loop-right.rights c.pop.new.self c.in-Some.right c.in-Some.ensures c.loop-right.invariant.below).1 in
     (omega (arith, h, c.decreases), tt)
 
 pub expression-returns-in_err-side : goal.expression-returns-in_err-side
@@ -77,5 +80,5 @@ expression-loop-right-preserved t c =
     record {
       whole = operator_gives calls c.args.variables.now whole c.loop-right.rights c.pop.new.self c.in-Some.right c.loop-right.value c.in-Some.ensures c.loop-right.invariant.whole
           c.in_ok-side.side c.in_ok-value-2.value c.in_ok-side.ensures c.in_ok-value-2.ensures;
-      below = (below_last (nodes_expr c.args.expr.now) c.loop-right.rights c.pop.new.self c.in-Some.right c.in-Some.ensures c.loop-right.invariant.below).0;
+      below = (below_last spine.right_side (nodes_expr c.args.expr.now) c.loop-right.rights c.pop.new.self c.in-Some.right c.in-Some.ensures c.loop-right.invariant.below).0;
     }

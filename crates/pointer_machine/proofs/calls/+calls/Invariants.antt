@@ -32,7 +32,7 @@ decreases-expression-loop-right l = length l.rights
 abbrev pub invariant-expression-loop-right : goal.invariant-expression-loop-right
 invariant-expression-loop-right l = record {
   whole : spine.rights_value (spec.call_value l.program l.bound) l.variables l.rights (Ok l.value) ≡ spec.value (spec.call_value l.program l.bound) l.variables l.expr;
-  below : spine.AreBelow (nodes_expr l.expr) l.rights;
+  below : spine.AreBelow spine.right_side (nodes_expr l.expr) l.rights;
 }
 
 abbrev pub invariant-arguments-loop-item : goal.invariant-arguments-loop-item

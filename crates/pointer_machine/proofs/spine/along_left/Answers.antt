@@ -1,9 +1,9 @@
-use Rattle.std.proofs.Common.{◌≡◌, ◌≤◌, ap, sym, subst, refl, ◌∙◌}
+use Rattle.std.proofs.Common.{◌≡◌, ◌≤◌, ap, sym, subst, ◌∙◌}
 use Rattle.sums_ast.specs.Tree.{Expr, binary, nodes_expr}
 use Rattle.sums_ast.specs.View.{expr_of}
 use Rattle.pointer_machine.specs.declared.spine.Right.{Right}
 use Rattle.pointer_machine.specs.Spine as spec
-use Rattle.pointer_machine.proofs.Rights.{next_whole, next_below, next_left}
+use Rattle.source_meaning.specs.SpineLemmas.{next_whole, next_below, next_left}
 use Rattle.pointer_machine.proofs.spine.along_left.Goals as goal
 
 pub loop-left-preserved : goal.loop-left-preserved
@@ -21,7 +21,8 @@ loop-left-preserved c =
     let here = c.loop-left.invariant in
     record {
       whole = λ k vars. subst (λ (e : Expr). spec.rights_value k vars c.push.new.self (spec.value k vars e) ≡ spec.value k vars whole) same
-          (next_whole whole left a b s op c.loop-left.rights c.push.new.self r is refl refl c.get.ensures pushed k vars (here.whole k vars));
-      left = subst (λ (e : Expr). nodes_expr e ≤ nodes_expr whole) same (next_left whole left a b s op c.loop-left.rights c.push.new.self r is refl refl c.get.ensures pushed here.left);
-      rights = next_below whole left a b s op c.loop-left.rights c.push.new.self r is refl refl c.get.ensures pushed here.left here.rights;
+          (next_whole whole left a b s op c.loop-left.rights c.push.new.self r is pushed (spec.with_right k vars) (spec.value k vars)
+          (ap (λ (e : Expr). spec.value k vars (binary s op a e)) c.get.ensures) (here.whole k vars));
+      left = subst (λ (e : Expr). nodes_expr e ≤ nodes_expr whole) same (next_left whole left a b s op c.loop-left.rights c.push.new.self r is pushed here.left);
+      rights = next_below whole left a b s op c.loop-left.rights c.push.new.self r is pushed spec.right_side c.get.ensures here.left here.rights;
     }

@@ -8,5 +8,5 @@ abbrev pub invariant-loop-left : goal.invariant-loop-left
 invariant-loop-left l = record {
   whole : (c : spec.Call) (vars : List Number) → spec.rights_value c vars l.rights (spec.value c vars l.left) ≡ spec.value c vars l.expr;
   left : nodes_expr l.left ≤ nodes_expr l.expr;
-  rights : spec.AreBelow (nodes_expr l.expr) l.rights;
+  rights : spec.AreBelow spec.right_side (nodes_expr l.expr) l.rights;
 }

@@ -5,7 +5,7 @@ use Rattle.table_reader.specs.declared.symbol.Symbol.TheVariants as S
 use Rattle.table_reader.specs.Building.{CanBuild}
 use Rattle.table_reader.specs.Conditions.{firm, accepts}
 use Rattle.table_reader.specs.Machine.{CanEnter, IsReached, begun, empty_place, symbols, left_over}
-use Rattle.table_reader.proofs.Theorem.{firm_part}
+use Rattle.table_reader.proofs.Heads.{firm_part}
 use Rattle.table_reader.proofs.Turning as U
 use Rattle.table_reader.proofs.reader.turn.Goals as goal
 

@@ -1,6 +1,7 @@
 use Rattle.std.proofs.Common.{List, ◌∷◌, [], ◌++◌, ap, sym, subst, ◌∙◌, arith}
 use Rattle.pure_ast.specs.Terms.{Term}
-use Rattle.translate.proofs.Items.{exprs_item, drop_item}
+use Rattle.source_meaning.specs.SizeLemmas.{exprs_item}
+use Rattle.translate.proofs.Items.{drop_item}
 use Rattle.translate.proofs.Steps.{AlongAll, along_last, along_next, along_all_start, along_all_next}
 use Rattle.translate.proofs.expression.+expression.Goals as goal
 

@@ -1,8 +1,9 @@
 use Rattle.std.proofs.Common.{◌≡◌, ◌+◌, List, ◌∷◌, [], ◌++◌, length, map, take, ap, sym, subst, ◌∙◌, arith, length-take}
+use Rattle.std.proofs.lemmas.List.{map_push}
 use Rattle.sums_ast.specs.declared.function.Function.{Function}
 use Rattle.translate.specs.Emit as spec
 use Rattle.translate.specs.Adds as adds
-use Rattle.translate.proofs.Items.{take_item, map_push, each_push, definitions_push}
+use Rattle.translate.proofs.Items.{take_item, each_push, definitions_push}
 use Rattle.translate.proofs.program.definitions.Goals as goal
 
 pub loop-function-preserved : goal.loop-function-preserved

@@ -1,0 +1,137 @@
+// Made by tools/code.py from tools/rust_ast.desc.py.
+use crate::Ident;
+use aen_base::{Boxed, IntTy, List, Span};
+use std::marker::Model;
+
+/// The lifetime of a reference type.
+#[derive(Drop)]
+pub struct Lifetime {
+    pub node: LifetimeNode,
+}
+
+/// The forms of `Lifetime`.
+#[derive(Drop)]
+pub enum LifetimeNode {
+    /// None, or `'_`.
+    Elided,
+    /// A lifetime; its name begins with `'`.
+    Lifetime(Ident),
+}
+
+/// Perhaps a list of type arguments, after `::`.
+#[derive(Drop)]
+pub struct Turbo {
+    pub node: TurboNode,
+}
+
+/// The forms of `Turbo`.
+#[derive(Drop)]
+pub enum TurboNode {
+    /// None.
+    NoTurbo,
+    /// The arguments.
+    Turbo(List<Written>),
+}
+
+/// A path.
+#[derive(Drop)]
+pub struct Path {
+    pub node: PathNode,
+}
+
+/// The forms of `Path`.
+#[derive(Drop)]
+pub enum PathNode {
+    /// One name.
+    One(Ident),
+    /// Two names, with the first's type arguments.
+    Two(Ident, Turbo, Ident),
+    /// `Box::new`, with its span.
+    BoxNew(Span),
+    /// `mem::replace`, with its span, that of the word `mem`, and whether it stands after `std::`.
+    MemReplace(Span, Span, bool),
+    /// `mem::swap`, with its span, that of the word `mem`, and whether it stands after `std::`.
+    MemSwap(Span, Span, bool),
+}
+
+/// A type as it is written. Each form begins with its span.
+#[cycle(source_types)]
+#[derive(Drop)]
+pub struct Written {
+    pub node: WrittenNode,
+}
+
+/// The forms of `Written`.
+#[cycle(source_types)]
+#[derive(Drop)]
+pub enum WrittenNode {
+    /// An integer type.
+    Int(Span, IntTy),
+    /// `bool`.
+    Bool(Span),
+    /// `()`.
+    Unit(Span),
+    /// A tuple of these parts.
+    Tuple(Span, List<Written>),
+    /// A reference; true for `&mut`.
+    Ref(Span, Lifetime, bool, Boxed<Written>),
+    /// `Box` of a type.
+    Boxed(Span, Boxed<Written>),
+    /// A declared type or a type parameter, with arguments.
+    Named(Span, Ident, List<Written>),
+}
+
+impl Model for Lifetime {
+    ghost use Rattle.rust_ast.specs.SourceTypes.{Lifetime, coded_lifetime};
+
+    ghost Value = { Lifetime };
+
+    ghost coded = { coded_lifetime };
+
+    ghost use Rattle.rust_ast.specs.SourceTypesView.{lifetime_of};
+
+    ghost view = { λ e. lifetime_of e.node };
+}
+
+impl Model for Turbo {
+    ghost use Rattle.rust_ast.specs.SourceTypes.{Turbo, coded_turbo};
+
+    ghost Value = { Turbo };
+
+    ghost coded = { coded_turbo };
+
+    ghost use Rattle.rust_ast.specs.SourceTypesView.{turbo_of};
+
+    ghost view = { λ e. turbo_of e.node };
+}
+
+impl Model for Path {
+    ghost use Rattle.rust_ast.specs.SourceTypes.{Path, coded_path};
+
+    ghost Value = { Path };
+
+    ghost coded = { coded_path };
+
+    ghost use Rattle.rust_ast.specs.SourceTypesView.{path_of};
+
+    ghost view = { λ e. path_of e.node };
+}
+
+impl Model for Written {
+    ghost use Rattle.rust_ast.specs.SourceTypes.{Written, coded_written, nodes_written};
+
+    ghost Value = { Written };
+
+    ghost coded = { coded_written };
+
+    ghost use Rattle.rust_ast.specs.SourceTypesView.{written_of};
+
+    ghost view = { λ e. written_of e.node };
+
+    ghost size = { nodes_written };
+
+    ghost use Rattle.std.proofs.Common.{arith};
+    ghost use Rattle.rust_ast.specs.SourceTypesFalls.{written_falls};
+
+    ghost size_decreases = { λ a h. Prim.omega (arith, written_falls a.node) };
+}

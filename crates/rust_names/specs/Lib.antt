@@ -1,0 +1,11 @@
+pub mod Finding
+pub mod Tables
+pub mod Lookups
+pub mod Twice
+pub mod Scopes
+pub mod TypeUses
+pub mod PathUses
+pub mod PatternUses
+pub mod Uses
+pub mod Walks
+pub mod Resolution
