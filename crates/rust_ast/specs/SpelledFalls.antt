@@ -1,6 +1,6 @@
 -- A node's parts are smaller than the node.
 -- Made by tools/code.py from tools/rust_ast.desc.py.
-use Rattle.std.specs.Prelude.{ℕ, ◌+◌, ◌*◌, ◌≤◌, List, [], ◌∷◌, Option, Some, None}
+use Rattle.std.specs.Prelude.{ℕ, ◌+◌, ◌≤◌, List, [], ◌∷◌, Some, None}
 use Rattle.std.proofs.Common.{arith}
 use denote.Param.Weighed.{most}
 use Rattle.rust_ast.specs.Spelled as t

@@ -1,7 +1,7 @@
 -- Patterns with what they look through and how their names bind (LANGUAGE.md, "Types").
 -- Made by tools/trees.py from tools/rust_ast.desc.py.
-use Rattle.std.specs.Prelude.{◌≡◌, ℕ, zero, suc, ◌+◌, Bool, List, [], ◌∷◌, Option, Some, None, refl}
-use Rattle.std.specs.Coded.{Coded, coded_ℕ, coded_bool, coded_list}
+use Rattle.std.specs.Prelude.{◌≡◌, ℕ, zero, suc, ◌+◌, Bool, List, [], ◌∷◌, refl}
+use Rattle.std.specs.Coded.{Coded, coded_ℕ, coded_bool}
 use Rattle.std.proofs.Common.{ap, sym, ◌∙◌, subst}
 use base.Stored.{Gv, gnil, gnum, gcons, num}
 use Rattle.aen_base.specs.declared.span.Span.{Span}
