@@ -67,7 +67,7 @@ branch_rule p a yes_block b x st =
     and_then (yes_block (for_arm x None) k.1) (λ y.
     and_then (value_of b (for_arm x (joined None (block_value y.0))) y.1) (λ n.
     gives (select_value p x k.0 (s.more_arms (q.truth true) (block_value y.0) (s.more_arms (q.truth false) n.0 s.no_arms))
-        (joined (joined None (block_value y.0)) n.0)) n.1)))
+    (joined (joined None (block_value y.0)) n.0)) n.1)))
 
 -- arms, the first type among them, and the state
 pub record Arms : Type 0 where

@@ -29,6 +29,7 @@ abbrev pub callee_of : Scope → e.Callee → Callee
 callee_of c (e.function f) = unwrap_or (option_map of_sig (slice_get c.sigs f)) no_callee
 callee_of c (e.builtin_of b) = of_sig (builtins.builtin_of b)
 callee_of c (e.constructor d v) = record {
-    types = parameters_of c.decls d.0;
-    params = map (λ (f : List ℕ × t.Ty). f.1) (fields_of c.decls d.0 v);
-    result = t.named d (parameters_from (parameters_of c.decls d.0) 0) }
+  types = parameters_of c.decls d.0;
+  params = map (λ (f : List ℕ × t.Ty). f.1) (fields_of c.decls d.0 v);
+  result = t.named d (parameters_from (parameters_of c.decls d.0) 0);
+}

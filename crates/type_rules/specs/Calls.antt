@@ -56,10 +56,11 @@ is_wrong_lists n ls = nat_lt 1 (length ls) || is_wrong_list n ls
 -- `braces`: the arguments have names, and one may be missing; else they are counted
 abbrev pub whole_of : Callee → Bool → Bool → Bool → Arguments → Whole
 whole_of g nested wrong braces r = record {
-    nested = nested;
-    lacks = lacks_type r.finds;
-    wrong = wrong || (not braces && not (part_count r.parts == length g.params));
-    missing = braces && nat_lt (part_count r.parts) (length g.params) }
+  nested = nested;
+  lacks = lacks_type r.finds;
+  wrong = wrong || (not braces && not (part_count r.parts == length g.params));
+  missing = braces && nat_lt (part_count r.parts) (length g.params);
+}
 
 abbrev pub call_from : Span → e.Callee → Callee → Bool → Bool → (Finds → State → Result Arguments Fault) → Expected → State → Finds → Finds → Answer
 call_from p k g wrong braces read x st f0 f1 =
@@ -70,4 +71,4 @@ call_from p k g wrong braces read x st f0 f1 =
 unfoldable pub call_rule : Span → e.Callee → Callee → List (List t.Ty) → Bool → (Finds → State → Result Arguments Fault) → Expected → State → Answer
 call_rule p k g ls braces read x st =
     call_from p k g (is_wrong_lists g.types ls) braces read x st (begun g.types (unwrap_or (head_of ls) []))
-      (expected_finds g.result (begun g.types (unwrap_or (head_of ls) [])) (expected_type x))
+    (expected_finds g.result (begun g.types (unwrap_or (head_of ls) [])) (expected_type x))

@@ -36,7 +36,7 @@ met_arguments d o = None
 abbrev pub constructor_arguments : List TypeDecl → ℕ → List (List t.Ty) → Option t.Ty → Option (List t.Ty)
 constructor_arguments ds d ls o =
     or_else (written_arguments (parameters_of ds d) ls)
-      (or_else (met_arguments d o) (if parameters_of ds d == 0 then Some [] else None))
+    (or_else (met_arguments d o) (if parameters_of ds d == 0 then Some [] else None))
 
 abbrev pub put_in_fields : Option (List t.Ty) → List (List ℕ × t.Ty) → List t.Ty
 put_in_fields None fs = []

@@ -78,7 +78,7 @@ abbrev mutual
   NodeFits c x never (s.negation v) = (never ≡ false) × ValFits c v × Same (type_of v) x × (is_integer_or_bool x ≡ true)
   NodeFits c x never (s.binary op a b) =
       (never ≡ false) × ValFits c a × ValFits c b × Same (type_of a) x × (takes_type op x ≡ true)
-        × ((if is_shift op then is_integer (type_of b) else same (type_of b) x) ≡ true)
+      × ((if is_shift op then is_integer (type_of b) else same (type_of b) x) ≡ true)
   NodeFits c x never (s.compare op a b) =
       (never ≡ false) × ValFits c a × ValFits c b × Same t.bool x × Same (type_of a) (type_of b) × (compares_type op (type_of a) ≡ true)
   NodeFits c x never (s.cast v i) = (never ≡ false) × ValFits c v × Same (t.int i) x × (is_integer_or_bool (type_of v) ≡ true)
@@ -88,8 +88,8 @@ abbrev mutual
   NodeFits c x never (s.assign p v) = (never ≡ false) × PlaceFits c p × ValFits c v × Same t.unit x × Found (place_type c p) (type_of v)
   NodeFits c x never (s.update op p v) =
       (never ≡ false) × PlaceFits c p × ValFits c v × Same t.unit x
-        × ((if is_shift op then is_integer (type_of v) else takes_type op (type_of v)) ≡ true)
-        × ((is_shift op || same (unwrap_or (place_type c p) t.unit) (type_of v)) ≡ true)
+      × ((if is_shift op then is_integer (type_of v) else takes_type op (type_of v)) ≡ true)
+      × ((is_shift op || same (unwrap_or (place_type c p) t.unit) (type_of v)) ≡ true)
   NodeFits c x never (s.inner b) = (never ≡ block_never b) × Same (block_type b) x × BlockFits c b
   NodeFits c x never (s.select k arms) =
       (never ≡ none_ends arms) × ScrutineeFits c k × ArmsFit c (scrutinee_type k) x arms × (is_covered c.decls (scrutinee_type k) (patterns_of arms) ≡ true)

@@ -126,4 +126,3 @@ coded_expected = record { code = stored_expected; inj = inj_expected }
 
 abbrev pub coded_raw : Coded Raw
 coded_raw = record { code = stored_raw; inj = inj_raw }
-

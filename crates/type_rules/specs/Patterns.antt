@@ -42,24 +42,24 @@ abbrev mutual
       looked (λ m. refuse (is_not_bool m.part) s Mismatch (Ok (q.truth b, types))) m m.part
   pattern ds (p.tuple s xs) m types =
       looked (λ m.
-        and_then (patterns ds xs (tuple_types (source_length xs) m.part) m types) (λ r.
-        refuse (is_no_tuple (source_length xs) m.part) s Mismatch (
-        Ok (q.tuple r.0, r.1)))) m m.part
+      and_then (patterns ds xs (tuple_types (source_length xs) m.part) m types) (λ r.
+      refuse (is_no_tuple (source_length xs) m.part) s Mismatch (
+      Ok (q.tuple r.0, r.1)))) m m.part
   pattern ds (p.construct s d v ts xs) m types =
       and_then (arguments_lists ds ts) (λ ls.
       looked (λ m.
-        and_then (patterns ds xs (put_in_fields (constructor_arguments ds d.0 ls m.part) (fields_of ds d.0 v)) m types) (λ r.
-        refuse (is_other_declared d.0 (constructor_arguments ds d.0 ls m.part) m.part) s Mismatch (
-        refuse (is_wrong_list (parameters_of ds d.0) ls || not (source_length xs == length (fields_of ds d.0 v))) s Arity (
-        Ok (q.construct d v (numbered_pats 0 r.0), r.1))))) m m.part)
+      and_then (patterns ds xs (put_in_fields (constructor_arguments ds d.0 ls m.part) (fields_of ds d.0 v)) m types) (λ r.
+      refuse (is_other_declared d.0 (constructor_arguments ds d.0 ls m.part) m.part) s Mismatch (
+      refuse (is_wrong_list (parameters_of ds d.0) ls || not (source_length xs == length (fields_of ds d.0 v))) s Arity (
+      Ok (q.construct d v (numbered_pats 0 r.0), r.1))))) m m.part)
   pattern ds (p.literal s d v ts xs) m types =
       and_then (arguments_lists ds ts) (λ ls.
       looked (λ m.
-        and_then (field_patterns ds xs (fields_of ds d.0 v) (constructor_arguments ds d.0 ls m.part) [] m types) (λ r.
-        refuse (is_other_declared d.0 (constructor_arguments ds d.0 ls m.part) m.part) s Mismatch (
-        refuse (is_wrong_list (parameters_of ds d.0) ls) s Arity (
-        refuse (nat_lt (fieldpats_length r.0) (length (fields_of ds d.0 v))) s Field (
-        Ok (q.construct d v r.0, r.1)))))) m m.part)
+      and_then (field_patterns ds xs (fields_of ds d.0 v) (constructor_arguments ds d.0 ls m.part) [] m types) (λ r.
+      refuse (is_other_declared d.0 (constructor_arguments ds d.0 ls m.part) m.part) s Mismatch (
+      refuse (is_wrong_list (parameters_of ds d.0) ls) s Arity (
+      refuse (nat_lt (fieldpats_length r.0) (length (fields_of ds d.0 v))) s Field (
+      Ok (q.construct d v r.0, r.1)))))) m m.part)
 
   -- parts by place, with their types as far as these are known
   pub patterns : List TypeDecl → p.Pats → List t.Ty → Met → List t.Ty → Result (q.Pats × List t.Ty) Fault
