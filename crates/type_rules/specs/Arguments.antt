@@ -1,13 +1,11 @@
 -- Arguments, and the type arguments that they find (LANGUAGE.md, "Calls").
 use Rattle.std.specs.Prelude.{Bool, Result, Ok, Err, ℕ, suc, not, ◌&&◌, if◌then◌else◌, Option, Some, None}
 use Rattle.aen_base.specs.declared.span.Span.{Span}
-use Rattle.type_rules.specs.Bodies.{read}
 use Rattle.type_rules.specs.Faults.{Fault, and_then, at, refuse}
 use Rattle.type_rules.specs.Forms.{Expected, none, want, Raw}
 use Rattle.type_rules.specs.Matching.{Finds, Reached, finds_reference, is_bare, is_known, matched, put_found, reached}
 use Rattle.type_rules.specs.Operands.{Operand, value_of}
 use Rattle.type_rules.specs.Places.{raw_type, used}
-use Rattle.type_rules.specs.Skeletons.{content}
 use Rattle.type_rules.specs.WrittenOut.{reborrow}
 use Rattle.type_rules.specs.declared.fault.KindOfFault.TheVariants.{NestedBorrow, Mismatch}
 use Rattle.type_rules.specs.declared.state.State.{State}

@@ -2,7 +2,6 @@
 use Rattle.std.specs.Prelude.{Bool, true, false, Result, Ok, ℕ, if◌then◌else◌, Option, Some, None, List, slice_set}
 use Rattle.aen_base.specs.declared.span.Span.{Span}
 use Rattle.core_ty.specs.Shape.{is_copy}
-use Rattle.type_rules.specs.Bodies.{part}
 use Rattle.type_rules.specs.Faults.{Fault, and_then, limited, refuse}
 use Rattle.type_rules.specs.TypeFacts.{is_large, no_region}
 use Rattle.type_rules.specs.declared.fault.KindOfFault.TheVariants.{MoveOut}

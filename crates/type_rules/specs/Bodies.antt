@@ -7,13 +7,11 @@ use Rattle.type_rules.specs.Branches.{Arms, Blocked, block_value, branch_rule, j
 use Rattle.type_rules.specs.Callees.{callee_of}
 use Rattle.type_rules.specs.Calls.{call_rule}
 use Rattle.type_rules.specs.Constructors.{field_number, is_no_field}
-use Rattle.type_rules.specs.Coverage.{parts}
 use Rattle.type_rules.specs.Expecting.{for_arm}
 use Rattle.type_rules.specs.Faults.{Fault, and_then, refuse}
 use Rattle.type_rules.specs.Fields.{field_named, fields_of}
 use Rattle.type_rules.specs.Forms.{Expected, none, held}
 use Rattle.type_rules.specs.Lists.{head_of, rest_of}
-use Rattle.type_rules.specs.Literals.{literal}
 use Rattle.type_rules.specs.Loops.{give_nothing, give_rule, go_on_rule, leave_nothing, leave_rule, loop_rule}
 use Rattle.type_rules.specs.Matching.{Finds}
 use Rattle.type_rules.specs.Operands.{Operand, diverging, number_rule, tuple_rule, value_of, variable_rule}

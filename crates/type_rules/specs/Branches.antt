@@ -2,7 +2,6 @@
 use Rattle.std.specs.Prelude.{Bool, true, false, Result, Ok, not, ◌&&◌, if◌then◌else◌, Option, Some, None, List, [], ◌∷◌, is_none}
 use Rattle.aen_base.specs.declared.span.Span.{Span}
 use Rattle.type_rules.specs.Binding.{Met}
-use Rattle.type_rules.specs.Bodies.{read}
 use Rattle.type_rules.specs.Coverage.{is_uncovered}
 use Rattle.type_rules.specs.Expecting.{expected_type, for_arm, is_mismatch, settled}
 use Rattle.type_rules.specs.Faults.{Fault, and_then, refuse}

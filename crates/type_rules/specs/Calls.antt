@@ -1,7 +1,6 @@
 -- Calls and constructors (LANGUAGE.md, "Calls").
 use Rattle.std.specs.Prelude.{Bool, Result, ℕ, ◌==◌, not, ◌&&◌, ◌||◌, nat_lt, Option, Some, None, List, [], unwrap_or, length}
 use Rattle.aen_base.specs.declared.span.Span.{Span}
-use Rattle.core_ty.specs.Signatures.{builtin_of}
 use Rattle.type_rules.specs.Arguments.{Arguments, part_count, values_of}
 use Rattle.type_rules.specs.Callees.{Callee}
 use Rattle.type_rules.specs.Constructors.{is_wrong_list}
@@ -18,7 +17,6 @@ use Rattle.type_rules.specs.declared.state.State.{State}
 use Rattle.rust_ast.specs.Resolved as e
 use Rattle.rust_ast.specs.Spelled as s
 use Rattle.core_ty.specs.Types as t
-use Rattle.rust_ast.specs.Written as w
 
 -- the rows that may hold at the whole, after its arguments
 pub record Whole : Type 0 where

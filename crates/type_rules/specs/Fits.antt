@@ -6,14 +6,11 @@ use Rattle.aen_base.specs.Numbers.{in_range}
 use Rattle.core_ty.specs.Shape.{is_copy}
 use Rattle.core_ty.specs.declared.decl.Sig.{Sig}
 use Rattle.core_ty.specs.declared.decl.TypeDecl.{TypeDecl}
-use Rattle.rust_ast.specs.declared.resolution.Function.{Function}
 use Rattle.rust_ast.specs.declared.spelling.Spelled.{Spelled}
-use Rattle.type_rules.specs.Access.{field_of}
-use Rattle.type_rules.specs.Branches.{Arms, patterns_of, scrutinee_type}
+use Rattle.type_rules.specs.Branches.{patterns_of, scrutinee_type}
 use Rattle.type_rules.specs.Coverage.{is_covered}
 use Rattle.type_rules.specs.FitsCalls.{Built, CallFits, sig_of}
 use Rattle.type_rules.specs.FitsPatterns.{NamesFit, PatFits}
-use Rattle.type_rules.specs.Forms.{stands, held}
 use Rattle.type_rules.specs.Frames.{Found, Frame, Same, boxed_in, in_loop, loop_type, part_at, place_type}
 use Rattle.type_rules.specs.Operands.{tuple_type}
 use Rattle.type_rules.specs.Operators.{compares_type, is_shift, takes_type}

@@ -4,7 +4,6 @@ use Rattle.core_ty.specs.Signatures.{builtin_of}
 use Rattle.core_ty.specs.Substitution.{substitute}
 use Rattle.core_ty.specs.declared.decl.Sig.{Sig}
 use Rattle.type_rules.specs.Arguments.{part_count}
-use Rattle.type_rules.specs.Callees.{Callee}
 use Rattle.type_rules.specs.Fields.{fields_of}
 use Rattle.type_rules.specs.Frames.{Found, Frame, Same, field_at}
 use Rattle.type_rules.specs.Places.{type_of}

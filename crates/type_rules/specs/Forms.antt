@@ -1,7 +1,7 @@
 -- What is expected of an expression, and what it is (LANGUAGE.md, "Expected types", "Places").
 -- Made by tools/trees.py from tools/type_rules.desc.py.
-use Rattle.std.specs.Prelude.{◌≡◌, ℕ, zero, suc, ◌+◌, Bool, List, [], ◌∷◌, Option, Some, None, refl}
-use Rattle.std.specs.Coded.{Coded, coded_ℕ, coded_bool, coded_list}
+use Rattle.std.specs.Prelude.{◌≡◌, ℕ, zero, suc, Bool, refl}
+use Rattle.std.specs.Coded.{Coded, coded_bool}
 use Rattle.std.proofs.Common.{ap, sym, ◌∙◌, subst}
 use base.Stored.{Gv, gnil, gnum, gcons, num}
 use Rattle.core_ty.specs.Types.{Ty, coded_ty}

@@ -14,7 +14,6 @@ use Rattle.type_rules.specs.declared.fault.KindOfFault.TheVariants.{Mismatch, Ou
 use Rattle.type_rules.specs.declared.state.Loop.{Loop}
 use Rattle.type_rules.specs.declared.state.Scope.{Scope}
 use Rattle.type_rules.specs.declared.state.State.{State}
-use Rattle.rust_ast.specs.Patterns as p
 use Rattle.rust_ast.specs.Spelled as s
 use Rattle.core_ty.specs.Types as t
 

@@ -1,7 +1,6 @@
 -- The parts of expressions, and the forms that have none or are tuples (LANGUAGE.md, "Expressions").
 use Rattle.std.specs.Prelude.{Bool, true, Result, ℕ, ◌==◌, if◌then◌else◌, Option, Some, List, [], length, map}
 use Rattle.aen_base.specs.declared.span.Span.{Span}
-use Rattle.type_rules.specs.Bodies.{read}
 use Rattle.type_rules.specs.Expecting.{expected_type, for_part, or_unit}
 use Rattle.type_rules.specs.Faults.{Fault, and_then}
 use Rattle.type_rules.specs.Forms.{Expected, Raw, stands, held}

@@ -3,7 +3,6 @@ use Rattle.std.specs.Prelude.{Bool, true, false, Result, Ok, ℕ, suc, ◌+◌, 
 use Rattle.aen_base.specs.declared.span.Span.{Span}
 use Rattle.core_ty.specs.declared.decl.TypeDecl.{TypeDecl}
 use Rattle.type_rules.specs.Binding.{Bound, Met, bound, inside, looked}
-use Rattle.type_rules.specs.Bodies.{part}
 use Rattle.type_rules.specs.Constructors.{constructor_arguments, field_number, field_type, is_no_field, is_no_tuple, is_not_bool, is_other_declared, is_wrong_list, put_in_fields, tuple_types}
 use Rattle.type_rules.specs.Faults.{Fault, and_then, refuse}
 use Rattle.type_rules.specs.Fields.{field_named, fields_of, parameters_of}

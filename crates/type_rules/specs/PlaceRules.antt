@@ -3,7 +3,6 @@ use Rattle.std.specs.Prelude.{Bool, Ok, Err, ℕ, ◌&&◌, if◌then◌else◌,
 use Rattle.aen_base.specs.declared.operators.BinOp.{BinOp}
 use Rattle.aen_base.specs.declared.span.Span.{Span}
 use Rattle.type_rules.specs.Access.{dereferenced, field_of, stripped}
-use Rattle.type_rules.specs.Bodies.{read}
 use Rattle.type_rules.specs.Faults.{and_then, at, refuse}
 use Rattle.type_rules.specs.Fields.{Part, part_of}
 use Rattle.type_rules.specs.Forms.{none, hint, want, Raw}

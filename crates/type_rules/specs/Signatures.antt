@@ -9,8 +9,6 @@ use Rattle.rust_ast.specs.declared.resolution.Resolved.{Resolved}
 use Rattle.type_rules.specs.Declarations.{parameter_numbers}
 use Rattle.type_rules.specs.Faults.{Fault, and_then}
 use Rattle.type_rules.specs.WrittenTypes.{Standing, Typing, input, output, written}
-use Rattle.rust_ast.specs.Patterns as p
-use Rattle.rust_ast.specs.SpelledPatterns as q
 use Rattle.core_ty.specs.Types as t
 use Rattle.rust_ast.specs.Written as w
 
