@@ -151,7 +151,7 @@ class Module:
             indent = len(text) - len(text.lstrip())
             if text in ("mutual", "abbrev mutual"):
                 mutual = True
-            elif indent == 0 or (mutual and indent == 2):
+            elif text.strip() != "}" and (indent == 0 or (mutual and indent == 2)):
                 mutual = mutual and indent == 2
                 declared.append([text.strip()])
             else:

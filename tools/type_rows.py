@@ -30,7 +30,7 @@ use Rattle.type_rows.proofs.Terms.{sp, ty, rg, nu}
 """
 KINDS = """EndlessType NestedBorrow NoRegion Mismatch NoType Arity Field NotPlace NotMutable MoveOut Uncovered LiteralRange
 NotInteger Outside""".split()
-FUNCTION = re.compile(r"record \{ (name = .*?; span = .*?; lifetimes = .*?; type_params = .*?; )params = .*?; variables = (.*?); body = ", re.S)
+FUNCTION = re.compile(r"record \{ (name = [^;]*; span = [^;]*; lifetimes = [^;]*; type_params = [^;]*; )params = .*?; variables = (.*?); body = ")
 
 
 def rules():

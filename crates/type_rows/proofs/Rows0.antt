@@ -1,10 +1,9 @@
 -- Small sources and what typing answers for them, by computing.
 -- Made by tools/type_rows.py from the sources in tools/type_rows.txt.
-use Rattle.std.specs.Prelude.{◌≡◌, refl, ℕ, true, false, List, [], ◌∷◌, Some, None, Ok, Err, pos, negsuc}
-use Rattle.aen_base.specs.declared.int_ty.IntTy.TheVariants.{U8, U16, U32, U64, U128, Usize, I8, I16, I32, I64, I128, Isize}
+use Rattle.std.specs.Prelude.{◌≡◌, refl, true, false, [], ◌∷◌, Some, None, Ok, pos}
+use Rattle.aen_base.specs.declared.int_ty.IntTy.TheVariants.{U8, U32, I32}
 use Rattle.aen_base.specs.declared.operators.BinOp.TheVariants as B
 use Rattle.aen_base.specs.declared.operators.CmpOp.TheVariants as C
-use Rattle.aen_base.specs.declared.operators.Builtin.TheVariants.{BoxNew, Replace, Swap}
 use Rattle.aen_base.specs.Numbers.{limit, depth}
 use Rattle.core_ty.specs.Types as t
 use Rattle.rust_ast.specs.Written as w
@@ -12,8 +11,6 @@ use Rattle.rust_ast.specs.Patterns as p
 use Rattle.rust_ast.specs.Resolved as e
 use Rattle.rust_ast.specs.SpelledPatterns as q
 use Rattle.rust_ast.specs.Spelled as s
-use Rattle.type_rules.specs.Faults.{at}
-use Rattle.type_rules.specs.declared.fault.KindOfFault.TheVariants.{EndlessType, NestedBorrow, NoRegion, Mismatch, NoType, Arity, Field, NotPlace, NotMutable, MoveOut, Uncovered, LiteralRange, NotInteger, Outside}
 use Rattle.type_rules.specs.Arguments.{argument}
 use Rattle.type_rules.specs.Binding.{bound}
 use Rattle.type_rules.specs.Branches.{scrutinee, branch_rule, select_rule}
@@ -29,7 +26,7 @@ use Rattle.type_rules.specs.Programs.{typed_bodies, typed_program}
 use Rattle.type_rules.specs.Signatures.{signature_of}
 use Rattle.type_rules.specs.Statements.{run_rule, let_rule, let_nothing, block_with, block_without}
 use Rattle.type_rules.specs.TypeFacts.{is_large}
-use Rattle.type_rows.proofs.Terms.{sp, ty, rg, nu}
+use Rattle.type_rows.proofs.Terms.{sp, rg, nu}
 
 -- fn f(x: u32) -> u32 { x + 1 }
 row_0 : typed_program (record { types = []; functions = ((record { name = (102 ∷ []); span = (sp 3 4); lifetimes = []; type_params = []; params = ((w.int (sp 8 11) U32) ∷ []); result = (Some (w.int (sp 16 19) U32)); variables = ((record { name = (120 ∷ []); span = (sp 5 6); mutable = false; late = false }) ∷ []); body = (e.block (sp 20 29) e.no_stmts (e.some_maybeexpr (e.binary (sp 22 27) B.Add (e.variable (sp 22 23) 0) (e.number (sp 26 27) false 1 p.no_suffix)))) }) ∷ []) }) ≡ Ok (record { decls = []; functions = ((record { name = (102 ∷ []); span = (sp 3 4); lifetimes = []; type_params = []; sig = (record { type_params = 0; regions = 0; params = ((t.int U32) ∷ []); result = (t.int U32) }); variables = ((120 ∷ []) ∷ []); types = ((t.int U32) ∷ []); body = (s.block (t.int U32) false (sp 20 29) s.no_stmts (s.some_maybevalue (s.value (t.int U32) false (sp 22 27) (s.binary B.Add (s.value (t.int U32) false (sp 22 23) (s.use_of (s.variable 0) true)) (s.value (t.int U32) false (sp 26 27) (s.number (nu U32 (pos 1)))))))) }) ∷ []) })

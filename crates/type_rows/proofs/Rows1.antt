@@ -1,10 +1,10 @@
 -- Small sources and what typing answers for them, by computing.
 -- Made by tools/type_rows.py from the sources in tools/type_rows.txt.
-use Rattle.std.specs.Prelude.{◌≡◌, refl, ℕ, true, false, List, [], ◌∷◌, Some, None, Ok, Err, pos, negsuc}
-use Rattle.aen_base.specs.declared.int_ty.IntTy.TheVariants.{U8, U16, U32, U64, U128, Usize, I8, I16, I32, I64, I128, Isize}
+use Rattle.std.specs.Prelude.{◌≡◌, refl, true, false, [], ◌∷◌, Some, Ok, Err, pos}
+use Rattle.aen_base.specs.declared.int_ty.IntTy.TheVariants.{U8, U16, U32, I16}
 use Rattle.aen_base.specs.declared.operators.BinOp.TheVariants as B
 use Rattle.aen_base.specs.declared.operators.CmpOp.TheVariants as C
-use Rattle.aen_base.specs.declared.operators.Builtin.TheVariants.{BoxNew, Replace, Swap}
+use Rattle.aen_base.specs.declared.operators.Builtin.TheVariants.{BoxNew}
 use Rattle.aen_base.specs.Numbers.{limit, depth}
 use Rattle.core_ty.specs.Types as t
 use Rattle.rust_ast.specs.Written as w
@@ -13,7 +13,7 @@ use Rattle.rust_ast.specs.Resolved as e
 use Rattle.rust_ast.specs.SpelledPatterns as q
 use Rattle.rust_ast.specs.Spelled as s
 use Rattle.type_rules.specs.Faults.{at}
-use Rattle.type_rules.specs.declared.fault.KindOfFault.TheVariants.{EndlessType, NestedBorrow, NoRegion, Mismatch, NoType, Arity, Field, NotPlace, NotMutable, MoveOut, Uncovered, LiteralRange, NotInteger, Outside}
+use Rattle.type_rules.specs.declared.fault.KindOfFault.TheVariants.{NoRegion, Field}
 use Rattle.type_rules.specs.Arguments.{argument}
 use Rattle.type_rules.specs.Binding.{bound}
 use Rattle.type_rules.specs.Branches.{scrutinee, branch_rule, select_rule}
@@ -37,17 +37,17 @@ unfolding argument bound scrutinee branch_rule select_rule call_rule is_covered 
 row_10 = refl
 
 -- struct S { a: u8, b: Box<(bool, u16)> } fn f(s: &mut S) -> u16 { s.b.1 += 1; s.b.1 }
-row_11 : typed_program (record { types = ((record { name = (83 ∷ []); span = (sp 7 8); params = []; is_struct = true; variants = (((83 ∷ []), (((97 ∷ []), (w.int (sp 14 16) U8)) ∷ (((98 ∷ []), (w.boxed (sp 21 37) (w.tuple (sp 25 36) (w.more_writtens (w.bool (sp 26 30)) (w.more_writtens (w.int (sp 32 35) U16) w.no_writtens))))) ∷ []))) ∷ []) }) ∷ []); functions = ((record { name = (102 ∷ []); span = (sp 43 44); lifetimes = []; type_params = []; params = ((w.ref (sp 48 54) w.elided true (w.named (sp 53 54) (ty 0) w.no_writtens)) ∷ []); result = (Some (w.int (sp 59 62) U16)); variables = ((record { name = (115 ∷ []); span = (sp 45 46); mutable = false; late = false }) ∷ []); body = (e.block (sp 63 84) (e.more_stmts (e.run (e.update (sp 65 75) B.Add (e.field (sp 65 70) (e.field (sp 65 68) (e.variable (sp 65 66) 0) (sp 67 68) (98 ∷ [])) (sp 69 70) (49 ∷ [])) (e.number (sp 74 75) false 1 p.no_suffix)) true) e.no_stmts) (e.some_maybeexpr (e.field (sp 77 82) (e.field (sp 77 80) (e.variable (sp 77 78) 0) (sp 79 80) (98 ∷ [])) (sp 81 82) (49 ∷ [])))) }) ∷ []) }) ≡ Ok (record { decls = ((record { name = (83 ∷ []); span = (sp 7 8); params = []; is_struct = true; variants = ((record { name = (83 ∷ []); fields = (((97 ∷ []), (t.int U8)) ∷ (((98 ∷ []), (t.boxed (t.tuple (t.more_tys t.bool (t.more_tys (t.int U16) t.no_tys))))) ∷ [])) }) ∷ []) }) ∷ []); functions = ((record { name = (83 ∷ []); span = (sp 7 8); params = []; is_struct = true; variants = (((83 ∷ []), (((97 ∷ []), (w.int (sp 14 16) U8)) ∷ (((98 ∷ []), (w.boxed (sp 21 37) (w.tuple (sp 25 36) (w.more_writtens (w.bool (sp 26 30)) (w.more_writtens (w.int (sp 32 35) U16) w.no_writtens))))) ∷ []))) ∷ []) }) ∷ []); functions = ((record { name = (102 ∷ []); span = (sp 43 44); lifetimes = []; type_params = []; sig = (record { type_params = 0; regions = 1; params = ((t.ref (rg 0) true (t.named (ty 0) t.no_tys)) ∷ []); result = (t.int U16) }); variables = ((115 ∷ []) ∷ []); types = ((t.ref (rg 0) true (t.named (ty 0) t.no_tys)) ∷ []); body = (s.block (t.int U16) false (sp 63 84) (s.more_stmts (s.run (s.value t.unit false (sp 65 75) (s.update B.Add (s.field (s.unbox (s.field (s.through (s.variable 0)) 1)) 1) (s.value (t.int U16) false (sp 74 75) (s.number (nu U16 (pos 1))))))) s.no_stmts) (s.some_maybevalue (s.value (t.int U16) false (sp 77 82) (s.use_of (s.field (s.unbox (s.field (s.through (s.variable 0)) 1)) 1) true)))) }) ∷ []) })
+row_11 : typed_program (record { types = ((record { name = (83 ∷ []); span = (sp 7 8); params = []; is_struct = true; variants = (((83 ∷ []), (((97 ∷ []), (w.int (sp 14 16) U8)) ∷ (((98 ∷ []), (w.boxed (sp 21 37) (w.tuple (sp 25 36) (w.more_writtens (w.bool (sp 26 30)) (w.more_writtens (w.int (sp 32 35) U16) w.no_writtens))))) ∷ []))) ∷ []) }) ∷ []); functions = ((record { name = (102 ∷ []); span = (sp 43 44); lifetimes = []; type_params = []; params = ((w.ref (sp 48 54) w.elided true (w.named (sp 53 54) (ty 0) w.no_writtens)) ∷ []); result = (Some (w.int (sp 59 62) U16)); variables = ((record { name = (115 ∷ []); span = (sp 45 46); mutable = false; late = false }) ∷ []); body = (e.block (sp 63 84) (e.more_stmts (e.run (e.update (sp 65 75) B.Add (e.field (sp 65 70) (e.field (sp 65 68) (e.variable (sp 65 66) 0) (sp 67 68) (98 ∷ [])) (sp 69 70) (49 ∷ [])) (e.number (sp 74 75) false 1 p.no_suffix)) true) e.no_stmts) (e.some_maybeexpr (e.field (sp 77 82) (e.field (sp 77 80) (e.variable (sp 77 78) 0) (sp 79 80) (98 ∷ [])) (sp 81 82) (49 ∷ [])))) }) ∷ []) }) ≡ Ok (record { decls = ((record { name = (83 ∷ []); span = (sp 7 8); params = []; is_struct = true; variants = ((record { name = (83 ∷ []); fields = (((97 ∷ []), (t.int U8)) ∷ (((98 ∷ []), (t.boxed (t.tuple (t.more_tys t.bool (t.more_tys (t.int U16) t.no_tys))))) ∷ [])) }) ∷ []) }) ∷ []); functions = ((record { name = (102 ∷ []); span = (sp 43 44); lifetimes = []; type_params = []; sig = (record { type_params = 0; regions = 1; params = ((t.ref (rg 0) true (t.named (ty 0) t.no_tys)) ∷ []); result = (t.int U16) }); variables = ((115 ∷ []) ∷ []); types = ((t.ref (rg 0) true (t.named (ty 0) t.no_tys)) ∷ []); body = (s.block (t.int U16) false (sp 63 84) (s.more_stmts (s.run (s.value t.unit false (sp 65 75) (s.update B.Add (s.field (s.unbox (s.field (s.through (s.variable 0)) 1)) 1) (s.value (t.int U16) false (sp 74 75) (s.number (nu U16 (pos 1))))))) s.no_stmts) (s.some_maybevalue (s.value (t.int U16) false (sp 77 82) (s.use_of (s.field (s.unbox (s.field (s.through (s.variable 0)) 1)) 1) true)))) }) ∷ []) })
 unfolding argument bound scrutinee branch_rule select_rule call_rule is_covered declared_types literal loop_rule give_rule give_nothing leave_rule leave_nothing go_on_rule number_rule variable_rule tuple_rule minus_rule negation_rule operands binary_rule compare_rule lazy_rule cast_rule deref_rule borrow_rule field_rule assign_rule update_rule typed_bodies typed_program signature_of run_rule let_rule let_nothing block_with block_without is_large limit depth
 row_11 = refl
 
 -- enum L { N, C(u8, Box<L>) } fn f(l: &mut L) -> u8 { match l { L::C(x, t) => { *x += 1; f(t) } L::N => 0 } }
-row_12 : typed_program (record { types = ((record { name = (76 ∷ []); span = (sp 5 6); params = []; is_struct = false; variants = (((78 ∷ []), []) ∷ (((67 ∷ []), (((48 ∷ []), (w.int (sp 14 16) U8)) ∷ (((49 ∷ []), (w.boxed (sp 18 24) (w.named (sp 22 23) (ty 0) w.no_writtens))) ∷ []))) ∷ [])) }) ∷ []); functions = ((record { name = (102 ∷ []); span = (sp 31 32); lifetimes = []; type_params = []; params = ((w.ref (sp 36 42) w.elided true (w.named (sp 41 42) (ty 0) w.no_writtens)) ∷ []); result = (Some (w.int (sp 47 49) U8)); variables = ((record { name = (108 ∷ []); span = (sp 33 34); mutable = false; late = false }) ∷ ((record { name = (120 ∷ []); span = (sp 67 68); mutable = false; late = false }) ∷ ((record { name = (116 ∷ []); span = (sp 70 71); mutable = false; late = false }) ∷ []))); body = (e.block (sp 50 107) e.no_stmts (e.some_maybeexpr (e.select (sp 52 105) (e.variable (sp 58 59) 0) (e.more_arms (p.construct (sp 62 72) (ty 0) 1 w.no_turbo (p.more_pats (p.bind (sp 67 68) (sp 67 68) false 1) (p.more_pats (p.bind (sp 70 71) (sp 70 71) false 2) p.no_pats))) (e.inner (e.block (sp 76 93) (e.more_stmts (e.run (e.update (sp 78 85) B.Add (e.deref (sp 78 80) (e.variable (sp 79 80) 1)) (e.number (sp 84 85) false 1 p.no_suffix)) true) e.no_stmts) (e.some_maybeexpr (e.call (sp 87 91) (e.function 0) w.no_turbo (e.more_exprs (e.variable (sp 89 90) 2) e.no_exprs))))) (e.more_arms (p.construct (sp 94 98) (ty 0) 0 w.no_turbo p.no_pats) (e.number (sp 102 103) false 0 p.no_suffix) e.no_arms))))) }) ∷ []) }) ≡ Ok (record { decls = ((record { name = (76 ∷ []); span = (sp 5 6); params = []; is_struct = false; variants = ((record { name = (78 ∷ []); fields = [] }) ∷ ((record { name = (67 ∷ []); fields = (((48 ∷ []), (t.int U8)) ∷ (((49 ∷ []), (t.boxed (t.named (ty 0) t.no_tys))) ∷ [])) }) ∷ [])) }) ∷ []); functions = ((record { name = (76 ∷ []); span = (sp 5 6); params = []; is_struct = false; variants = (((78 ∷ []), []) ∷ (((67 ∷ []), (((48 ∷ []), (w.int (sp 14 16) U8)) ∷ (((49 ∷ []), (w.boxed (sp 18 24) (w.named (sp 22 23) (ty 0) w.no_writtens))) ∷ []))) ∷ [])) }) ∷ []); functions = ((record { name = (102 ∷ []); span = (sp 31 32); lifetimes = []; type_params = []; sig = (record { type_params = 0; regions = 1; params = ((t.ref (rg 0) true (t.named (ty 0) t.no_tys)) ∷ []); result = (t.int U8) }); variables = ((108 ∷ []) ∷ ((120 ∷ []) ∷ ((116 ∷ []) ∷ []))); types = ((t.ref (rg 0) true (t.named (ty 0) t.no_tys)) ∷ ((t.ref (rg 0) true (t.int U8)) ∷ ((t.ref (rg 0) true (t.boxed (t.named (ty 0) t.no_tys))) ∷ []))); body = (s.block (t.int U8) false (sp 50 107) s.no_stmts (s.some_maybevalue (s.value (t.int U8) false (sp 52 105) (s.select (s.stands (t.ref (rg 0) true (t.named (ty 0) t.no_tys)) (sp 58 59) (s.variable 0)) (s.more_arms (q.through true (q.construct (ty 0) 1 (q.more_fieldpats 0 (q.bind (sp 67 68) 1 (q.refer true)) (q.more_fieldpats 1 (q.bind (sp 70 71) 2 (q.refer true)) q.no_fieldpats)))) (s.value (t.int U8) false (sp 76 93) (s.inner (s.block (t.int U8) false (sp 76 93) (s.more_stmts (s.run (s.value t.unit false (sp 78 85) (s.update B.Add (s.through (s.variable 1)) (s.value (t.int U8) false (sp 84 85) (s.number (nu U8 (pos 1))))))) s.no_stmts) (s.some_maybevalue (s.value (t.int U8) false (sp 87 91) (s.call (s.function 0) t.no_tys (s.more_values (s.value (t.ref (rg 0) true (t.named (ty 0) t.no_tys)) false (sp 89 90) (s.borrow true (s.unbox (s.through (s.variable 2))))) s.no_values))))))) (s.more_arms (q.through true (q.construct (ty 0) 0 q.no_fieldpats)) (s.value (t.int U8) false (sp 102 103) (s.number (nu U8 (pos 0)))) s.no_arms)))))) }) ∷ []) })
+row_12 : typed_program (record { types = ((record { name = (76 ∷ []); span = (sp 5 6); params = []; is_struct = false; variants = (((78 ∷ []), []) ∷ (((67 ∷ []), (((48 ∷ []), (w.int (sp 14 16) U8)) ∷ (((49 ∷ []), (w.boxed (sp 18 24) (w.named (sp 22 23) (ty 0) w.no_writtens))) ∷ []))) ∷ [])) }) ∷ []); functions = ((record { name = (102 ∷ []); span = (sp 31 32); lifetimes = []; type_params = []; params = ((w.ref (sp 36 42) w.elided true (w.named (sp 41 42) (ty 0) w.no_writtens)) ∷ []); result = (Some (w.int (sp 47 49) U8)); variables = ((record { name = (108 ∷ []); span = (sp 33 34); mutable = false; late = false }) ∷ ((record { name = (120 ∷ []); span = (sp 67 68); mutable = false; late = false }) ∷ ((record { name = (116 ∷ []); span = (sp 70 71); mutable = false; late = false }) ∷ []))); body = (e.block (sp 50 107) e.no_stmts (e.some_maybeexpr (e.select (sp 52 105) (e.variable (sp 58 59) 0) (e.more_arms (p.construct (sp 62 72) (ty 0) 1 w.no_turbo (p.more_pats (p.bind (sp 67 68) (sp 67 68) false 1) (p.more_pats (p.bind (sp 70 71) (sp 70 71) false 2) p.no_pats))) (e.inner (e.block (sp 76 93) (e.more_stmts (e.run (e.update (sp 78 85) B.Add (e.deref (sp 78 80) (e.variable (sp 79 80) 1)) (e.number (sp 84 85) false 1 p.no_suffix)) true) e.no_stmts) (e.some_maybeexpr (e.call (sp 87 91) (e.function 0) w.no_turbo (e.more_exprs (e.variable (sp 89 90) 2) e.no_exprs))))) (e.more_arms (p.construct (sp 94 98) (ty 0) 0 w.no_turbo p.no_pats) (e.number (sp 102 103) false 0 p.no_suffix) e.no_arms))))) }) ∷ []) }) ≡ Ok (record { decls = ((record { name = (76 ∷ []); span = (sp 5 6); params = []; is_struct = false; variants = ((record { name = (78 ∷ []); fields = [] }) ∷ ((record { name = (67 ∷ []); fields = (((48 ∷ []), (t.int U8)) ∷ (((49 ∷ []), (t.boxed (t.named (ty 0) t.no_tys))) ∷ [])) }) ∷ [])) }) ∷ []); functions = ((record { name = (102 ∷ []); span = (sp 31 32); lifetimes = []; type_params = []; sig = (record { type_params = 0; regions = 1; params = ((t.ref (rg 0) true (t.named (ty 0) t.no_tys)) ∷ []); result = (t.int U8) }); variables = ((108 ∷ []) ∷ ((120 ∷ []) ∷ ((116 ∷ []) ∷ []))); types = ((t.ref (rg 0) true (t.named (ty 0) t.no_tys)) ∷ ((t.ref (rg 0) true (t.int U8)) ∷ ((t.ref (rg 0) true (t.boxed (t.named (ty 0) t.no_tys))) ∷ []))); body = (s.block (t.int U8) false (sp 50 107) s.no_stmts (s.some_maybevalue (s.value (t.int U8) false (sp 52 105) (s.select (s.stands (t.ref (rg 0) true (t.named (ty 0) t.no_tys)) (sp 58 59) (s.variable 0)) (s.more_arms (q.through true (q.construct (ty 0) 1 (q.more_fieldpats 0 (q.bind (sp 67 68) 1 (q.refer true)) (q.more_fieldpats 1 (q.bind (sp 70 71) 2 (q.refer true)) q.no_fieldpats)))) (s.value (t.int U8) false (sp 76 93) (s.inner (s.block (t.int U8) false (sp 76 93) (s.more_stmts (s.run (s.value t.unit false (sp 78 85) (s.update B.Add (s.through (s.variable 1)) (s.value (t.int U8) false (sp 84 85) (s.number (nu U8 (pos 1))))))) s.no_stmts) (s.some_maybevalue (s.value (t.int U8) false (sp 87 91) (s.call (s.function 0) t.no_tys (s.more_values (s.value (t.ref (rg 0) true (t.named (ty 0) t.no_tys)) false (sp 89 90) (s.borrow true (s.unbox (s.through (s.variable 2))))) s.no_values))))))) (s.more_arms (q.through true (q.construct (ty 0) 0 q.no_fieldpats)) (s.value (t.int U8) false (sp 102 103) (s.number (nu U8 (pos 0)))) s.no_arms)))))) }) ∷ []) })
 unfolding argument bound scrutinee branch_rule select_rule call_rule is_covered declared_types literal loop_rule give_rule give_nothing leave_rule leave_nothing go_on_rule number_rule variable_rule tuple_rule minus_rule negation_rule operands binary_rule compare_rule lazy_rule cast_rule deref_rule borrow_rule field_rule assign_rule update_rule typed_bodies typed_program signature_of run_rule let_rule let_nothing block_with block_without is_large limit depth
 row_12 = refl
 
 -- enum O<T> { N, S(T) } fn f(b: bool) -> O<u16> { let x = if b { O::S(1u16) } else { O::N }; x }
-row_13 : typed_program (record { types = ((record { name = (79 ∷ []); span = (sp 5 6); params = ((84 ∷ []) ∷ []); is_struct = false; variants = (((78 ∷ []), []) ∷ (((83 ∷ []), (((48 ∷ []), (w.param (sp 17 18) 0 w.no_writtens)) ∷ [])) ∷ [])) }) ∷ []); functions = ((record { name = (102 ∷ []); span = (sp 25 26); lifetimes = []; type_params = []; params = ((w.bool (sp 30 34)) ∷ []); result = (Some (w.named (sp 39 45) (ty 0) (w.more_writtens (w.int (sp 41 44) U16) w.no_writtens))); variables = ((record { name = (98 ∷ []); span = (sp 27 28); mutable = false; late = false }) ∷ ((record { name = (120 ∷ []); span = (sp 52 53); mutable = false; late = false }) ∷ [])); body = (e.block (sp 46 94) (e.more_stmts (e.bind (sp 48 89) (p.bind (sp 52 53) (sp 52 53) false 1) w.no_maybewritten (e.some_maybeexpr (e.branch (sp 56 89) (e.variable (sp 59 60) 0) (e.block (sp 61 75) e.no_stmts (e.some_maybeexpr (e.call (sp 63 73) (e.constructor (ty 0) 1) w.no_turbo (e.more_exprs (e.number (sp 68 72) false 1 (p.some_suffix U16)) e.no_exprs)))) (e.inner (e.block (sp 81 89) e.no_stmts (e.some_maybeexpr (e.call (sp 83 87) (e.constructor (ty 0) 0) w.no_turbo e.no_exprs))))))) e.no_stmts) (e.some_maybeexpr (e.variable (sp 91 92) 1))) }) ∷ []) }) ≡ Ok (record { decls = ((record { name = (79 ∷ []); span = (sp 5 6); params = ((84 ∷ []) ∷ []); is_struct = false; variants = ((record { name = (78 ∷ []); fields = [] }) ∷ ((record { name = (83 ∷ []); fields = (((48 ∷ []), (t.param 0)) ∷ []) }) ∷ [])) }) ∷ []); functions = ((record { name = (79 ∷ []); span = (sp 5 6); params = ((84 ∷ []) ∷ []); is_struct = false; variants = (((78 ∷ []), []) ∷ (((83 ∷ []), (((48 ∷ []), (w.param (sp 17 18) 0 w.no_writtens)) ∷ [])) ∷ [])) }) ∷ []); functions = ((record { name = (102 ∷ []); span = (sp 25 26); lifetimes = []; type_params = []; sig = (record { type_params = 0; regions = 0; params = (t.bool ∷ []); result = (t.named (ty 0) (t.more_tys (t.int U16) t.no_tys)) }); variables = ((98 ∷ []) ∷ ((120 ∷ []) ∷ [])); types = (t.bool ∷ ((t.named (ty 0) (t.more_tys (t.int U16) t.no_tys)) ∷ [])); body = (s.block (t.named (ty 0) (t.more_tys (t.int U16) t.no_tys)) false (sp 46 94) (s.more_stmts (s.put (sp 48 89) 1 (s.value (t.named (ty 0) (t.more_tys (t.int U16) t.no_tys)) false (sp 56 89) (s.select (s.stands t.bool (sp 59 60) (s.variable 0)) (s.more_arms (q.truth true) (s.value (t.named (ty 0) (t.more_tys (t.int U16) t.no_tys)) false (sp 61 75) (s.inner (s.block (t.named (ty 0) (t.more_tys (t.int U16) t.no_tys)) false (sp 61 75) s.no_stmts (s.some_maybevalue (s.value (t.named (ty 0) (t.more_tys (t.int U16) t.no_tys)) false (sp 63 73) (s.construct (ty 0) 1 (s.more_parts 0 (s.value (t.int U16) false (sp 68 72) (s.number (nu U16 (pos 1)))) s.no_parts))))))) (s.more_arms (q.truth false) (s.value (t.named (ty 0) (t.more_tys (t.int U16) t.no_tys)) false (sp 81 89) (s.inner (s.block (t.named (ty 0) (t.more_tys (t.int U16) t.no_tys)) false (sp 81 89) s.no_stmts (s.some_maybevalue (s.value (t.named (ty 0) (t.more_tys (t.int U16) t.no_tys)) false (sp 83 87) (s.construct (ty 0) 0 s.no_parts)))))) s.no_arms))))) s.no_stmts) (s.some_maybevalue (s.value (t.named (ty 0) (t.more_tys (t.int U16) t.no_tys)) false (sp 91 92) (s.use_of (s.variable 1) false)))) }) ∷ []) })
+row_13 : typed_program (record { types = ((record { name = (79 ∷ []); span = (sp 5 6); params = ((84 ∷ []) ∷ []); is_struct = false; variants = (((78 ∷ []), []) ∷ (((83 ∷ []), (((48 ∷ []), (w.param (sp 17 18) 0 w.no_writtens)) ∷ [])) ∷ [])) }) ∷ []); functions = ((record { name = (102 ∷ []); span = (sp 25 26); lifetimes = []; type_params = []; params = ((w.bool (sp 30 34)) ∷ []); result = (Some (w.named (sp 39 45) (ty 0) (w.more_writtens (w.int (sp 41 44) U16) w.no_writtens))); variables = ((record { name = (98 ∷ []); span = (sp 27 28); mutable = false; late = false }) ∷ ((record { name = (120 ∷ []); span = (sp 52 53); mutable = false; late = false }) ∷ [])); body = (e.block (sp 46 94) (e.more_stmts (e.bind (sp 48 89) (p.bind (sp 52 53) (sp 52 53) false 1) w.no_maybewritten (e.some_maybeexpr (e.branch (sp 56 89) (e.variable (sp 59 60) 0) (e.block (sp 61 75) e.no_stmts (e.some_maybeexpr (e.call (sp 63 73) (e.constructor (ty 0) 1) w.no_turbo (e.more_exprs (e.number (sp 68 72) false 1 (p.some_suffix U16)) e.no_exprs)))) (e.inner (e.block (sp 81 89) e.no_stmts (e.some_maybeexpr (e.call (sp 83 87) (e.constructor (ty 0) 0) w.no_turbo e.no_exprs))))))) e.no_stmts) (e.some_maybeexpr (e.variable (sp 91 92) 1))) }) ∷ []) }) ≡ Ok (record { decls = ((record { name = (79 ∷ []); span = (sp 5 6); params = ((84 ∷ []) ∷ []); is_struct = false; variants = ((record { name = (78 ∷ []); fields = [] }) ∷ ((record { name = (83 ∷ []); fields = (((48 ∷ []), (t.param 0)) ∷ []) }) ∷ [])) }) ∷ []); functions = ((record { name = (102 ∷ []); span = (sp 25 26); lifetimes = []; type_params = []; sig = (record { type_params = 0; regions = 0; params = (t.bool ∷ []); result = (t.named (ty 0) (t.more_tys (t.int U16) t.no_tys)) }); variables = ((98 ∷ []) ∷ ((120 ∷ []) ∷ [])); types = (t.bool ∷ ((t.named (ty 0) (t.more_tys (t.int U16) t.no_tys)) ∷ [])); body = (s.block (t.named (ty 0) (t.more_tys (t.int U16) t.no_tys)) false (sp 46 94) (s.more_stmts (s.put (sp 48 89) 1 (s.value (t.named (ty 0) (t.more_tys (t.int U16) t.no_tys)) false (sp 56 89) (s.select (s.stands t.bool (sp 59 60) (s.variable 0)) (s.more_arms (q.truth true) (s.value (t.named (ty 0) (t.more_tys (t.int U16) t.no_tys)) false (sp 61 75) (s.inner (s.block (t.named (ty 0) (t.more_tys (t.int U16) t.no_tys)) false (sp 61 75) s.no_stmts (s.some_maybevalue (s.value (t.named (ty 0) (t.more_tys (t.int U16) t.no_tys)) false (sp 63 73) (s.construct (ty 0) 1 (s.more_parts 0 (s.value (t.int U16) false (sp 68 72) (s.number (nu U16 (pos 1)))) s.no_parts))))))) (s.more_arms (q.truth false) (s.value (t.named (ty 0) (t.more_tys (t.int U16) t.no_tys)) false (sp 81 89) (s.inner (s.block (t.named (ty 0) (t.more_tys (t.int U16) t.no_tys)) false (sp 81 89) s.no_stmts (s.some_maybevalue (s.value (t.named (ty 0) (t.more_tys (t.int U16) t.no_tys)) false (sp 83 87) (s.construct (ty 0) 0 s.no_parts)))))) s.no_arms))))) s.no_stmts) (s.some_maybevalue (s.value (t.named (ty 0) (t.more_tys (t.int U16) t.no_tys)) false (sp 91 92) (s.use_of (s.variable 1) false)))) }) ∷ []) })
 unfolding argument bound scrutinee branch_rule select_rule call_rule is_covered declared_types literal loop_rule give_rule give_nothing leave_rule leave_nothing go_on_rule number_rule variable_rule tuple_rule minus_rule negation_rule operands binary_rule compare_rule lazy_rule cast_rule deref_rule borrow_rule field_rule assign_rule update_rule typed_bodies typed_program signature_of run_rule let_rule let_nothing block_with block_without is_large limit depth
 row_13 = refl
 

@@ -1,10 +1,9 @@
 -- Small sources and what typing answers for them, by computing.
 -- Made by tools/type_rows.py from the sources in tools/type_rows.txt.
-use Rattle.std.specs.Prelude.{◌≡◌, refl, ℕ, true, false, List, [], ◌∷◌, Some, None, Ok, Err, pos, negsuc}
-use Rattle.aen_base.specs.declared.int_ty.IntTy.TheVariants.{U8, U16, U32, U64, U128, Usize, I8, I16, I32, I64, I128, Isize}
+use Rattle.std.specs.Prelude.{◌≡◌, refl, true, false, [], ◌∷◌, Some, None, Ok, Err, pos, negsuc}
+use Rattle.aen_base.specs.declared.int_ty.IntTy.TheVariants.{U8, I8, I32}
 use Rattle.aen_base.specs.declared.operators.BinOp.TheVariants as B
-use Rattle.aen_base.specs.declared.operators.CmpOp.TheVariants as C
-use Rattle.aen_base.specs.declared.operators.Builtin.TheVariants.{BoxNew, Replace, Swap}
+use Rattle.aen_base.specs.declared.operators.Builtin.TheVariants.{BoxNew, Replace}
 use Rattle.aen_base.specs.Numbers.{limit, depth}
 use Rattle.core_ty.specs.Types as t
 use Rattle.rust_ast.specs.Written as w
@@ -13,7 +12,7 @@ use Rattle.rust_ast.specs.Resolved as e
 use Rattle.rust_ast.specs.SpelledPatterns as q
 use Rattle.rust_ast.specs.Spelled as s
 use Rattle.type_rules.specs.Faults.{at}
-use Rattle.type_rules.specs.declared.fault.KindOfFault.TheVariants.{EndlessType, NestedBorrow, NoRegion, Mismatch, NoType, Arity, Field, NotPlace, NotMutable, MoveOut, Uncovered, LiteralRange, NotInteger, Outside}
+use Rattle.type_rules.specs.declared.fault.KindOfFault.TheVariants.{NestedBorrow, NoType}
 use Rattle.type_rules.specs.Arguments.{argument}
 use Rattle.type_rules.specs.Binding.{bound}
 use Rattle.type_rules.specs.Branches.{scrutinee, branch_rule, select_rule}
@@ -32,7 +31,7 @@ use Rattle.type_rules.specs.TypeFacts.{is_large}
 use Rattle.type_rows.proofs.Terms.{sp, ty, rg, nu}
 
 -- struct P<T> { x: T, y: T } fn f() -> P<u8> { P { y: 1, x: 2 } }
-row_20 : typed_program (record { types = ((record { name = (80 ∷ []); span = (sp 7 8); params = ((84 ∷ []) ∷ []); is_struct = true; variants = (((80 ∷ []), (((120 ∷ []), (w.param (sp 17 18) 0 w.no_writtens)) ∷ (((121 ∷ []), (w.param (sp 23 24) 0 w.no_writtens)) ∷ []))) ∷ []) }) ∷ []); functions = ((record { name = (102 ∷ []); span = (sp 30 31); lifetimes = []; type_params = []; params = []; result = (Some (w.named (sp 37 42) (ty 0) (w.more_writtens (w.int (sp 39 41) U8) w.no_writtens))); variables = []; body = (e.block (sp 43 63) e.no_stmts (e.some_maybeexpr (e.literal (sp 45 61) (ty 0) 0 w.no_turbo (e.more_inits (sp 49 50) (121 ∷ []) (e.number (sp 52 53) false 1 p.no_suffix) (e.more_inits (sp 55 56) (120 ∷ []) (e.number (sp 58 59) false 2 p.no_suffix) e.no_inits))))) }) ∷ []) }) ≡ Ok (record { decls = ((record { name = (80 ∷ []); span = (sp 7 8); params = ((84 ∷ []) ∷ []); is_struct = true; variants = ((record { name = (80 ∷ []); fields = (((120 ∷ []), (t.param 0)) ∷ (((121 ∷ []), (t.param 0)) ∷ [])) }) ∷ []) }) ∷ []); functions = ((record { name = (80 ∷ []); span = (sp 7 8); params = ((84 ∷ []) ∷ []); is_struct = true; variants = (((80 ∷ []), (((120 ∷ []), (w.param (sp 17 18) 0 w.no_writtens)) ∷ (((121 ∷ []), (w.param (sp 23 24) 0 w.no_writtens)) ∷ []))) ∷ []) }) ∷ []); functions = ((record { name = (102 ∷ []); span = (sp 30 31); lifetimes = []; type_params = []; sig = (record { type_params = 0; regions = 0; params = []; result = (t.named (ty 0) (t.more_tys (t.int U8) t.no_tys)) }); variables = []; types = []; body = (s.block (t.named (ty 0) (t.more_tys (t.int U8) t.no_tys)) false (sp 43 63) s.no_stmts (s.some_maybevalue (s.value (t.named (ty 0) (t.more_tys (t.int U8) t.no_tys)) false (sp 45 61) (s.construct (ty 0) 0 (s.more_parts 1 (s.value (t.int U8) false (sp 52 53) (s.number (nu U8 (pos 1)))) (s.more_parts 0 (s.value (t.int U8) false (sp 58 59) (s.number (nu U8 (pos 2)))) s.no_parts)))))) }) ∷ []) })
+row_20 : typed_program (record { types = ((record { name = (80 ∷ []); span = (sp 7 8); params = ((84 ∷ []) ∷ []); is_struct = true; variants = (((80 ∷ []), (((120 ∷ []), (w.param (sp 17 18) 0 w.no_writtens)) ∷ (((121 ∷ []), (w.param (sp 23 24) 0 w.no_writtens)) ∷ []))) ∷ []) }) ∷ []); functions = ((record { name = (102 ∷ []); span = (sp 30 31); lifetimes = []; type_params = []; params = []; result = (Some (w.named (sp 37 42) (ty 0) (w.more_writtens (w.int (sp 39 41) U8) w.no_writtens))); variables = []; body = (e.block (sp 43 63) e.no_stmts (e.some_maybeexpr (e.literal (sp 45 61) (ty 0) 0 w.no_turbo (e.more_inits (sp 49 50) (121 ∷ []) (e.number (sp 52 53) false 1 p.no_suffix) (e.more_inits (sp 55 56) (120 ∷ []) (e.number (sp 58 59) false 2 p.no_suffix) e.no_inits))))) }) ∷ []) }) ≡ Ok (record { decls = ((record { name = (80 ∷ []); span = (sp 7 8); params = ((84 ∷ []) ∷ []); is_struct = true; variants = ((record { name = (80 ∷ []); fields = (((120 ∷ []), (t.param 0)) ∷ (((121 ∷ []), (t.param 0)) ∷ [])) }) ∷ []) }) ∷ []); functions = ((record { name = (102 ∷ []); span = (sp 30 31); lifetimes = []; type_params = []; sig = (record { type_params = 0; regions = 0; params = []; result = (t.named (ty 0) (t.more_tys (t.int U8) t.no_tys)) }); variables = []; types = []; body = (s.block (t.named (ty 0) (t.more_tys (t.int U8) t.no_tys)) false (sp 43 63) s.no_stmts (s.some_maybevalue (s.value (t.named (ty 0) (t.more_tys (t.int U8) t.no_tys)) false (sp 45 61) (s.construct (ty 0) 0 (s.more_parts 1 (s.value (t.int U8) false (sp 52 53) (s.number (nu U8 (pos 1)))) (s.more_parts 0 (s.value (t.int U8) false (sp 58 59) (s.number (nu U8 (pos 2)))) s.no_parts)))))) }) ∷ []) })
 unfolding argument bound scrutinee branch_rule select_rule call_rule is_covered declared_types literal loop_rule give_rule give_nothing leave_rule leave_nothing go_on_rule number_rule variable_rule tuple_rule minus_rule negation_rule operands binary_rule compare_rule lazy_rule cast_rule deref_rule borrow_rule field_rule assign_rule update_rule typed_bodies typed_program signature_of run_rule let_rule let_nothing block_with block_without is_large limit depth
 row_20 = refl
 
@@ -67,7 +66,7 @@ unfolding argument bound scrutinee branch_rule select_rule call_rule is_covered 
 row_26 = refl
 
 -- struct E; fn f(e: E) -> E { let E = e; E }
-row_27 : typed_program (record { types = ((record { name = (69 ∷ []); span = (sp 7 8); params = []; is_struct = true; variants = (((69 ∷ []), []) ∷ []) }) ∷ []); functions = ((record { name = (102 ∷ []); span = (sp 13 14); lifetimes = []; type_params = []; params = ((w.named (sp 18 19) (ty 0) w.no_writtens) ∷ []); result = (Some (w.named (sp 24 25) (ty 0) w.no_writtens)); variables = ((record { name = (101 ∷ []); span = (sp 15 16); mutable = false; late = false }) ∷ []); body = (e.block (sp 26 42) (e.more_stmts (e.bind (sp 28 37) (p.construct (sp 32 33) (ty 0) 0 w.no_turbo p.no_pats) w.no_maybewritten (e.some_maybeexpr (e.variable (sp 36 37) 0))) e.no_stmts) (e.some_maybeexpr (e.call (sp 39 40) (e.constructor (ty 0) 0) w.no_turbo e.no_exprs))) }) ∷ []) }) ≡ Ok (record { decls = ((record { name = (69 ∷ []); span = (sp 7 8); params = []; is_struct = true; variants = ((record { name = (69 ∷ []); fields = [] }) ∷ []) }) ∷ []); functions = ((record { name = (69 ∷ []); span = (sp 7 8); params = []; is_struct = true; variants = (((69 ∷ []), []) ∷ []) }) ∷ []); functions = ((record { name = (102 ∷ []); span = (sp 13 14); lifetimes = []; type_params = []; sig = (record { type_params = 0; regions = 0; params = ((t.named (ty 0) t.no_tys) ∷ []); result = (t.named (ty 0) t.no_tys) }); variables = ((101 ∷ []) ∷ []); types = ((t.named (ty 0) t.no_tys) ∷ []); body = (s.block (t.named (ty 0) t.no_tys) false (sp 26 42) (s.more_stmts (s.open_up (sp 28 37) (s.stands (t.named (ty 0) t.no_tys) (sp 36 37) (s.variable 0)) (q.construct (ty 0) 0 q.no_fieldpats)) s.no_stmts) (s.some_maybevalue (s.value (t.named (ty 0) t.no_tys) false (sp 39 40) (s.construct (ty 0) 0 s.no_parts)))) }) ∷ []) })
+row_27 : typed_program (record { types = ((record { name = (69 ∷ []); span = (sp 7 8); params = []; is_struct = true; variants = (((69 ∷ []), []) ∷ []) }) ∷ []); functions = ((record { name = (102 ∷ []); span = (sp 13 14); lifetimes = []; type_params = []; params = ((w.named (sp 18 19) (ty 0) w.no_writtens) ∷ []); result = (Some (w.named (sp 24 25) (ty 0) w.no_writtens)); variables = ((record { name = (101 ∷ []); span = (sp 15 16); mutable = false; late = false }) ∷ []); body = (e.block (sp 26 42) (e.more_stmts (e.bind (sp 28 37) (p.construct (sp 32 33) (ty 0) 0 w.no_turbo p.no_pats) w.no_maybewritten (e.some_maybeexpr (e.variable (sp 36 37) 0))) e.no_stmts) (e.some_maybeexpr (e.call (sp 39 40) (e.constructor (ty 0) 0) w.no_turbo e.no_exprs))) }) ∷ []) }) ≡ Ok (record { decls = ((record { name = (69 ∷ []); span = (sp 7 8); params = []; is_struct = true; variants = ((record { name = (69 ∷ []); fields = [] }) ∷ []) }) ∷ []); functions = ((record { name = (102 ∷ []); span = (sp 13 14); lifetimes = []; type_params = []; sig = (record { type_params = 0; regions = 0; params = ((t.named (ty 0) t.no_tys) ∷ []); result = (t.named (ty 0) t.no_tys) }); variables = ((101 ∷ []) ∷ []); types = ((t.named (ty 0) t.no_tys) ∷ []); body = (s.block (t.named (ty 0) t.no_tys) false (sp 26 42) (s.more_stmts (s.open_up (sp 28 37) (s.stands (t.named (ty 0) t.no_tys) (sp 36 37) (s.variable 0)) (q.construct (ty 0) 0 q.no_fieldpats)) s.no_stmts) (s.some_maybevalue (s.value (t.named (ty 0) t.no_tys) false (sp 39 40) (s.construct (ty 0) 0 s.no_parts)))) }) ∷ []) })
 unfolding argument bound scrutinee branch_rule select_rule call_rule is_covered declared_types literal loop_rule give_rule give_nothing leave_rule leave_nothing go_on_rule number_rule variable_rule tuple_rule minus_rule negation_rule operands binary_rule compare_rule lazy_rule cast_rule deref_rule borrow_rule field_rule assign_rule update_rule typed_bodies typed_program signature_of run_rule let_rule let_nothing block_with block_without is_large limit depth
 row_27 = refl
 

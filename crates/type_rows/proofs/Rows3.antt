@@ -1,19 +1,15 @@
 -- Small sources and what typing answers for them, by computing.
 -- Made by tools/type_rows.py from the sources in tools/type_rows.txt.
-use Rattle.std.specs.Prelude.{◌≡◌, refl, ℕ, true, false, List, [], ◌∷◌, Some, None, Ok, Err, pos, negsuc}
-use Rattle.aen_base.specs.declared.int_ty.IntTy.TheVariants.{U8, U16, U32, U64, U128, Usize, I8, I16, I32, I64, I128, Isize}
+use Rattle.std.specs.Prelude.{◌≡◌, refl, true, false, [], ◌∷◌, Some, None, Err}
+use Rattle.aen_base.specs.declared.int_ty.IntTy.TheVariants.{U8, U32}
 use Rattle.aen_base.specs.declared.operators.BinOp.TheVariants as B
 use Rattle.aen_base.specs.declared.operators.CmpOp.TheVariants as C
-use Rattle.aen_base.specs.declared.operators.Builtin.TheVariants.{BoxNew, Replace, Swap}
 use Rattle.aen_base.specs.Numbers.{limit, depth}
-use Rattle.core_ty.specs.Types as t
 use Rattle.rust_ast.specs.Written as w
 use Rattle.rust_ast.specs.Patterns as p
 use Rattle.rust_ast.specs.Resolved as e
-use Rattle.rust_ast.specs.SpelledPatterns as q
-use Rattle.rust_ast.specs.Spelled as s
 use Rattle.type_rules.specs.Faults.{at}
-use Rattle.type_rules.specs.declared.fault.KindOfFault.TheVariants.{EndlessType, NestedBorrow, NoRegion, Mismatch, NoType, Arity, Field, NotPlace, NotMutable, MoveOut, Uncovered, LiteralRange, NotInteger, Outside}
+use Rattle.type_rules.specs.declared.fault.KindOfFault.TheVariants.{NestedBorrow, NoRegion, Mismatch}
 use Rattle.type_rules.specs.Arguments.{argument}
 use Rattle.type_rules.specs.Binding.{bound}
 use Rattle.type_rules.specs.Branches.{scrutinee, branch_rule, select_rule}
@@ -29,7 +25,7 @@ use Rattle.type_rules.specs.Programs.{typed_bodies, typed_program}
 use Rattle.type_rules.specs.Signatures.{signature_of}
 use Rattle.type_rules.specs.Statements.{run_rule, let_rule, let_nothing, block_with, block_without}
 use Rattle.type_rules.specs.TypeFacts.{is_large}
-use Rattle.type_rows.proofs.Terms.{sp, ty, rg, nu}
+use Rattle.type_rows.proofs.Terms.{sp, ty}
 
 -- enum O<T> { N, S(T) } fn f(x: &u8) { O::S(x); }
 row_30 : typed_program (record { types = ((record { name = (79 ∷ []); span = (sp 5 6); params = ((84 ∷ []) ∷ []); is_struct = false; variants = (((78 ∷ []), []) ∷ (((83 ∷ []), (((48 ∷ []), (w.param (sp 17 18) 0 w.no_writtens)) ∷ [])) ∷ [])) }) ∷ []); functions = ((record { name = (102 ∷ []); span = (sp 25 26); lifetimes = []; type_params = []; params = ((w.ref (sp 30 33) w.elided false (w.int (sp 31 33) U8)) ∷ []); result = None; variables = ((record { name = (120 ∷ []); span = (sp 27 28); mutable = false; late = false }) ∷ []); body = (e.block (sp 35 47) (e.more_stmts (e.run (e.call (sp 37 44) (e.constructor (ty 0) 1) w.no_turbo (e.more_exprs (e.variable (sp 42 43) 0) e.no_exprs)) true) e.no_stmts) e.no_maybeexpr) }) ∷ []) }) ≡ Err (at (sp 42 43) NestedBorrow)

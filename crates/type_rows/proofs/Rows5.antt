@@ -1,19 +1,14 @@
 -- Small sources and what typing answers for them, by computing.
 -- Made by tools/type_rows.py from the sources in tools/type_rows.txt.
-use Rattle.std.specs.Prelude.{◌≡◌, refl, ℕ, true, false, List, [], ◌∷◌, Some, None, Ok, Err, pos, negsuc}
-use Rattle.aen_base.specs.declared.int_ty.IntTy.TheVariants.{U8, U16, U32, U64, U128, Usize, I8, I16, I32, I64, I128, Isize}
+use Rattle.std.specs.Prelude.{◌≡◌, refl, true, false, [], ◌∷◌, Some, None, Err}
+use Rattle.aen_base.specs.declared.int_ty.IntTy.TheVariants.{U8}
 use Rattle.aen_base.specs.declared.operators.BinOp.TheVariants as B
-use Rattle.aen_base.specs.declared.operators.CmpOp.TheVariants as C
-use Rattle.aen_base.specs.declared.operators.Builtin.TheVariants.{BoxNew, Replace, Swap}
 use Rattle.aen_base.specs.Numbers.{limit, depth}
-use Rattle.core_ty.specs.Types as t
 use Rattle.rust_ast.specs.Written as w
 use Rattle.rust_ast.specs.Patterns as p
 use Rattle.rust_ast.specs.Resolved as e
-use Rattle.rust_ast.specs.SpelledPatterns as q
-use Rattle.rust_ast.specs.Spelled as s
 use Rattle.type_rules.specs.Faults.{at}
-use Rattle.type_rules.specs.declared.fault.KindOfFault.TheVariants.{EndlessType, NestedBorrow, NoRegion, Mismatch, NoType, Arity, Field, NotPlace, NotMutable, MoveOut, Uncovered, LiteralRange, NotInteger, Outside}
+use Rattle.type_rules.specs.declared.fault.KindOfFault.TheVariants.{NotPlace, NotMutable, MoveOut, Uncovered}
 use Rattle.type_rules.specs.Arguments.{argument}
 use Rattle.type_rules.specs.Binding.{bound}
 use Rattle.type_rules.specs.Branches.{scrutinee, branch_rule, select_rule}
@@ -29,7 +24,7 @@ use Rattle.type_rules.specs.Programs.{typed_bodies, typed_program}
 use Rattle.type_rules.specs.Signatures.{signature_of}
 use Rattle.type_rules.specs.Statements.{run_rule, let_rule, let_nothing, block_with, block_without}
 use Rattle.type_rules.specs.TypeFacts.{is_large}
-use Rattle.type_rows.proofs.Terms.{sp, ty, rg, nu}
+use Rattle.type_rows.proofs.Terms.{sp, ty}
 
 -- fn f(x: u8) { let p = &(x + 1); }
 row_50 : typed_program (record { types = []; functions = ((record { name = (102 ∷ []); span = (sp 3 4); lifetimes = []; type_params = []; params = ((w.int (sp 8 10) U8) ∷ []); result = None; variables = ((record { name = (120 ∷ []); span = (sp 5 6); mutable = false; late = false }) ∷ ((record { name = (112 ∷ []); span = (sp 18 19); mutable = false; late = false }) ∷ [])); body = (e.block (sp 12 33) (e.more_stmts (e.bind (sp 14 30) (p.bind (sp 18 19) (sp 18 19) false 1) w.no_maybewritten (e.some_maybeexpr (e.borrow (sp 22 30) false (e.binary (sp 24 29) B.Add (e.variable (sp 24 25) 0) (e.number (sp 28 29) false 1 p.no_suffix))))) e.no_stmts) e.no_maybeexpr) }) ∷ []) }) ≡ Err (at (sp 24 29) NotPlace)

@@ -1,19 +1,14 @@
 -- Small sources and what typing answers for them, by computing.
 -- Made by tools/type_rows.py from the sources in tools/type_rows.txt.
-use Rattle.std.specs.Prelude.{◌≡◌, refl, ℕ, true, false, List, [], ◌∷◌, Some, None, Ok, Err, pos, negsuc}
-use Rattle.aen_base.specs.declared.int_ty.IntTy.TheVariants.{U8, U16, U32, U64, U128, Usize, I8, I16, I32, I64, I128, Isize}
+use Rattle.std.specs.Prelude.{◌≡◌, refl, true, false, [], ◌∷◌, Some, None, Err}
+use Rattle.aen_base.specs.declared.int_ty.IntTy.TheVariants.{U8, U16, U32}
 use Rattle.aen_base.specs.declared.operators.BinOp.TheVariants as B
-use Rattle.aen_base.specs.declared.operators.CmpOp.TheVariants as C
-use Rattle.aen_base.specs.declared.operators.Builtin.TheVariants.{BoxNew, Replace, Swap}
 use Rattle.aen_base.specs.Numbers.{limit, depth}
-use Rattle.core_ty.specs.Types as t
 use Rattle.rust_ast.specs.Written as w
 use Rattle.rust_ast.specs.Patterns as p
 use Rattle.rust_ast.specs.Resolved as e
-use Rattle.rust_ast.specs.SpelledPatterns as q
-use Rattle.rust_ast.specs.Spelled as s
 use Rattle.type_rules.specs.Faults.{at}
-use Rattle.type_rules.specs.declared.fault.KindOfFault.TheVariants.{EndlessType, NestedBorrow, NoRegion, Mismatch, NoType, Arity, Field, NotPlace, NotMutable, MoveOut, Uncovered, LiteralRange, NotInteger, Outside}
+use Rattle.type_rules.specs.declared.fault.KindOfFault.TheVariants.{Mismatch}
 use Rattle.type_rules.specs.Arguments.{argument}
 use Rattle.type_rules.specs.Binding.{bound}
 use Rattle.type_rules.specs.Branches.{scrutinee, branch_rule, select_rule}
@@ -29,7 +24,7 @@ use Rattle.type_rules.specs.Programs.{typed_bodies, typed_program}
 use Rattle.type_rules.specs.Signatures.{signature_of}
 use Rattle.type_rules.specs.Statements.{run_rule, let_rule, let_nothing, block_with, block_without}
 use Rattle.type_rules.specs.TypeFacts.{is_large}
-use Rattle.type_rows.proofs.Terms.{sp, ty, rg, nu}
+use Rattle.type_rows.proofs.Terms.{sp}
 
 -- fn f(x: u32) -> u8 { g(x); x } fn g(b: bool) -> u8 { 1 + true }
 row_70 : typed_program (record { types = []; functions = ((record { name = (102 ∷ []); span = (sp 3 4); lifetimes = []; type_params = []; params = ((w.int (sp 8 11) U32) ∷ []); result = (Some (w.int (sp 16 18) U8)); variables = ((record { name = (120 ∷ []); span = (sp 5 6); mutable = false; late = false }) ∷ []); body = (e.block (sp 19 30) (e.more_stmts (e.run (e.call (sp 21 25) (e.function 1) w.no_turbo (e.more_exprs (e.variable (sp 23 24) 0) e.no_exprs)) true) e.no_stmts) (e.some_maybeexpr (e.variable (sp 27 28) 0))) }) ∷ ((record { name = (103 ∷ []); span = (sp 34 35); lifetimes = []; type_params = []; params = ((w.bool (sp 39 43)) ∷ []); result = (Some (w.int (sp 48 50) U8)); variables = ((record { name = (98 ∷ []); span = (sp 36 37); mutable = false; late = false }) ∷ []); body = (e.block (sp 51 63) e.no_stmts (e.some_maybeexpr (e.binary (sp 53 61) B.Add (e.number (sp 53 54) false 1 p.no_suffix) (e.truth (sp 57 61) true)))) }) ∷ [])) }) ≡ Err (at (sp 23 24) Mismatch)
