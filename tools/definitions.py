@@ -263,7 +263,9 @@ class Clause:
     def meaning(self, name):
         if name in BUILT_IN and name not in self.module.clauses:
             return ("built in", name)
-        return self.within(self.module, name) or (("constructor", name, CONSTRUCTORS[name]) if name in CONSTRUCTORS else None)
+        if name in CONSTRUCTORS and (name in self.module.imports or name == "[]"):
+            return ("constructor", name, CONSTRUCTORS[name])
+        return self.within(self.module, name)
 
     def qualified(self, alias, name):
         return self.from_path(self.module.aliases[alias], name) if alias in self.module.aliases else None
