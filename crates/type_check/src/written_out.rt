@@ -81,7 +81,13 @@ pub fn content_of(alloc: Global, mutable: bool, held: Val) -> Result<Place, NoMe
 }
 
 /// The reborrow of a place or value whose type is a reference to `content`.
-pub fn reborrow(alloc: Global, taken: Taken, wanted: &Ty, content: &Ty, raw: Raw) -> Result<Val, NoMem>
+pub fn reborrow(
+    alloc: Global,
+    taken: Taken,
+    wanted: &Ty,
+    content: &Ty,
+    raw: Raw,
+) -> Result<Val, NoMem>
     ensures { IfOk result (λ v. v ≡ spec.reborrow taken.span taken.mutable wanted.now taken.from content.now raw) }
 {
     match raw.node {
@@ -108,7 +114,13 @@ pub fn reborrow(alloc: Global, taken: Taken, wanted: &Ty, content: &Ty, raw: Raw
 }
 
 /// `&` or `&mut` of what is wanted in a place.
-fn borrowed(alloc: Global, taken: Taken, wanted: &Ty, content: &Ty, place: Place) -> Result<Val, NoMem>
+fn borrowed(
+    alloc: Global,
+    taken: Taken,
+    wanted: &Ty,
+    content: &Ty,
+    place: Place,
+) -> Result<Val, NoMem>
     ensures { IfOk result (λ v. v ≡ s.value (t.ref no_region taken.mutable wanted.now) false taken.span (s.borrow taken.mutable (spec.unboxed content.now wanted.now place))) }
 {
     let inside = unboxed(alloc, content, wanted, place)?;

@@ -31,6 +31,7 @@ pub mod Calls
 pub mod Statements
 pub mod Bodies
 pub mod Programs
+pub mod Numbered
 pub mod SoundTypes
 pub mod Frames
 pub mod FitsCalls

@@ -1,6 +1,6 @@
 -- Typing of a whole program: declarations, signatures, bodies, each in source order (LANGUAGE.md,
 -- "Types").
-use Rattle.std.specs.Prelude.{Result, Ok, Err, ℕ, Some, List, [], ◌∷◌, map, slice_get, ◌≡◌, ◌<◌}
+use Rattle.std.specs.Prelude.{Result, Ok, Err, ℕ, length, Some, List, [], ◌∷◌, map, slice_get, ◌≡◌, ◌<◌}
 use Rattle.core_ty.specs.Containment.{IsEndless}
 use Rattle.core_ty.specs.declared.decl.Sig.{Sig}
 use Rattle.core_ty.specs.declared.decl.TypeDecl.{TypeDecl}
@@ -88,4 +88,4 @@ pub data Typed (prog : Resolved) : Result Spelled Fault → Type 0 where
   endless : {ds : List TypeDecl} {d : ℕ} → declared_types prog ≡ Ok ds →
       (h : IsFirstEndless ds d) → Typed prog (Err (at h.decl.span EndlessType))
   answered : {ds : List TypeDecl} → declared_types prog ≡ Ok ds →
-      ((d : ℕ) → IsEndless ds d → ⊥) → Typed prog (typed_program prog)
+      ((d : ℕ) → d < length ds → IsEndless ds d → ⊥) → Typed prog (typed_program prog)
