@@ -2,9 +2,7 @@
 ghost use Rattle.std.specs.Prelude.{◌≡◌};
 ghost use Rattle.core_ty.specs.Types as types;
 ghost use Rattle.type_rules.specs.TypeFacts as spec;
-ghost use Rattle.aen_base.specs.Numbers as numbers;
 
-use aen_base::IntTy;
 use core_ty::{Ty, TyNode};
 
 /// Whether both are one type but for the regions of references.
@@ -126,26 +124,7 @@ pub fn is_signed_integer(ty: &Ty) -> bool
     ensures { result ≡ spec.is_signed_integer ty.now }
 {
     match &ty.node {
-        TyNode::Int(int) => is_signed(*int),
+        TyNode::Int(int) => int.is_signed(),
         _ => false,
-    }
-}
-
-fn is_signed(ty: IntTy) -> bool
-    ensures { result ≡ numbers.is_signed ty }
-{
-    match ty {
-        IntTy::U8 => false,
-        IntTy::U16 => false,
-        IntTy::U32 => false,
-        IntTy::U64 => false,
-        IntTy::U128 => false,
-        IntTy::Usize => false,
-        IntTy::I8 => true,
-        IntTy::I16 => true,
-        IntTy::I32 => true,
-        IntTy::I64 => true,
-        IntTy::I128 => true,
-        IntTy::Isize => true,
     }
 }
