@@ -1,6 +1,6 @@
 -- A program with names resolved in which each number is that of something that is there: a declared
 -- type's variant, a function, a variable, a type parameter, a lifetime (LANGUAGE.md, "Names").
-use Rattle.std.specs.Prelude.{◌≡◌, ℕ, ◌+◌, Bool, true, false, ◌&&◌, Option, Some, None, List, [], ◌∷◌, length, map, nat_lt, slice_get, is_some}
+use Rattle.std.specs.Prelude.{◌≡◌, ℕ, ◌+◌, Bool, true, false, ◌&&◌, Option, Some, None, List, length, map, nat_lt, slice_get, is_some}
 use Rattle.std.specs.List.{list_all}
 use Rattle.aen_base.specs.declared.ids.TypeId.{TypeId}
 use Rattle.rust_ast.specs.Patterns as p
