@@ -4,7 +4,7 @@
 Compares the definitions of typing (crates/type_rules), run as a program, with another implementation, outside the gate.
 DUMP has for each source three lines: `file PATH`; the program with names resolved, as a term of the definitions, or
 `skip`; and what the other implementation answers: `fault LO HI KIND`, `large`, or `ok` and the spelled program as a term,
-with the signature, the types of the variables and the body of each function. The repository doesn't hold what writes it.
+with the signature, the types of the variables and the body of each function, in which `update` has no type. The repository doesn't hold what writes it.
 
 Where a program is typed, the whole spelled program must be equal, and its types must fit (specs/Fits.antt). A program
 with an endless type is passed over: whether there is one is a relation, which doesn't run."""
@@ -62,6 +62,18 @@ def program(text):
     return read
 
 
+def without_types(value):
+    """The value without the types that `update` has, which the dump doesn't tell. That they fit is said by the definitions."""
+    if isinstance(value, dict):
+        return {name: without_types(part) for name, part in value.items()}
+    if isinstance(value, tuple):
+        return tuple(without_types(part) for part in value)
+    if not isinstance(value, Made) or not value.parts:
+        return value
+    parts = value.parts[1:] if value.form == "update" and len(value.parts) == 4 else value.parts
+    return Made(value.form, *(without_types(part) for part in parts))
+
+
 def wanted(answer, read):
     """The answer that the definitions have to give."""
     if answer == "large":
@@ -93,7 +105,8 @@ def judge(definitions, dump):
             counts["EndlessType, passed over"] += 1
         else:
             answer, found = wanted(line, read), typed_program(read)
-            fits = answer.form != "Ok" or program_fits(answer.parts[0])
+            fits = found.form != "Ok" or program_fits(found.parts[0])
+            found = without_types(found)
             counts[line.split()[-1] if line.startswith("fault") else line.split()[0]] += 1
             counts["judged"] += 1
             counts["functions that fit"] += len(values_of(read["functions"])) if answer.form == "Ok" and fits else 0

@@ -58,9 +58,33 @@ def spelled_of(text, program):
     return text.replace("\0", " ")
 
 
+def after_term(text, at):
+    """The place behind the term at this place."""
+    level = 0
+    while True:
+        level += (text[at] == "(") - (text[at] == ")")
+        at += 1
+        if level == 0 and (text[at - 1] == ")" or text[at] in " )"):
+            return at
+
+
+def with_types(text):
+    """The term with the types that `update` has: for all but shifts those of its values."""
+    begin = "(s.update "
+    made, at = "", text.find(begin)
+    while at >= 0:
+        place = after_term(text, at + len(begin)) + 1
+        value = after_term(text, place) + len(" (s.value ")
+        assert "B.Sh" not in text[at:place], "the type of a shift's place isn't told"
+        made += text[:at] + begin + text[value : after_term(text, value)] + " "
+        text = text[at + len(begin) :]
+        at = text.find(begin)
+    return made + text
+
+
 def answer_of(text, program):
     if text.startswith("ok "):
-        return "Ok " + spelled_of(text[len("ok ") :], program)
+        return "Ok " + with_types(spelled_of(text[len("ok ") :], program))
     _, low, high, kind = text.split()
     return f"Err (at (sp {low} {high}) {kind})"
 

@@ -56,7 +56,7 @@ mutual
     either : Val → Val → Form
     call : Callee → Tys → Values → Form
     assign : Place → Val → Form
-    update : BinOp → Place → Val → Form
+    update : Ty → BinOp → Place → Val → Form
     inner : Block → Form
     select : Scrutinee → Arms → Form
     forever : ℕ → Bool → Bool → Block → Form
@@ -226,7 +226,7 @@ abbrev mutual
   nodes_form (either a0 a1) = nodes_val a0 + nodes_val a1 + 1
   nodes_form (call a0 a1 a2) = nodes_callee a0 + nodes_values a2 + 1
   nodes_form (assign a0 a1) = nodes_place a0 + nodes_val a1 + 1
-  nodes_form (update a0 a1 a2) = nodes_place a1 + nodes_val a2 + 1
+  nodes_form (update a0 a1 a2 a3) = nodes_place a2 + nodes_val a3 + 1
   nodes_form (inner a0) = nodes_block a0 + 1
   nodes_form (select a0 a1) = nodes_scrutinee a0 + nodes_arms a1 + 1
   nodes_form (forever a0 a1 a2 a3) = nodes_block a3 + 1
@@ -306,7 +306,7 @@ abbrev mutual
   stored_form (either a0 a1) = gcons (gnum 14) (gcons (stored_val a0) (gcons (stored_val a1) gnil))
   stored_form (call a0 a1 a2) = gcons (gnum 15) (gcons (stored_callee a0) (gcons (coded_tys.code a1) (gcons (stored_values a2) gnil)))
   stored_form (assign a0 a1) = gcons (gnum 16) (gcons (stored_place a0) (gcons (stored_val a1) gnil))
-  stored_form (update a0 a1 a2) = gcons (gnum 17) (gcons (binop_row.the_row.coded.code a0) (gcons (stored_place a1) (gcons (stored_val a2) gnil)))
+  stored_form (update a0 a1 a2 a3) = gcons (gnum 17) (gcons (coded_ty.code a0) (gcons (binop_row.the_row.coded.code a1) (gcons (stored_place a2) (gcons (stored_val a3) gnil))))
   stored_form (inner a0) = gcons (gnum 18) (gcons (stored_block a0) gnil)
   stored_form (select a0 a1) = gcons (gnum 19) (gcons (stored_scrutinee a0) (gcons (stored_arms a1) gnil))
   stored_form (forever a0 a1 a2 a3) = gcons (gnum 20) (gcons (coded_ℕ.code a0) (gcons (coded_bool.code a1) (gcons (coded_bool.code a2) (gcons (stored_block a3) gnil))))
@@ -446,7 +446,7 @@ abbrev Is_assign : Form → Type 0
 Is_assign y = (a0 : Place) × ((a1 : Val) × (y ≡ assign a0 a1))
 
 abbrev Is_update : Form → Type 0
-Is_update y = (a0 : BinOp) × ((a1 : Place) × ((a2 : Val) × (y ≡ update a0 a1 a2)))
+Is_update y = (a0 : Ty) × ((a1 : BinOp) × ((a2 : Place) × ((a3 : Val) × (y ≡ update a0 a1 a2 a3))))
 
 abbrev Is_inner : Form → Type 0
 Is_inner y = (a0 : Block) × (y ≡ inner a0)
@@ -515,7 +515,7 @@ shape_form (both a0 a1) = (a0, (a1, refl))
 shape_form (either a0 a1) = (a0, (a1, refl))
 shape_form (call a0 a1 a2) = (a0, (a1, (a2, refl)))
 shape_form (assign a0 a1) = (a0, (a1, refl))
-shape_form (update a0 a1 a2) = (a0, (a1, (a2, refl)))
+shape_form (update a0 a1 a2 a3) = (a0, (a1, (a2, (a3, refl))))
 shape_form (inner a0) = (a0, refl)
 shape_form (select a0 a1) = (a0, (a1, refl))
 shape_form (forever a0 a1 a2 a3) = (a0, (a1, (a2, (a3, refl))))
@@ -935,10 +935,10 @@ mutual
       let w = as_assign (gcons (stored_place a0) (gcons (stored_val a1) gnil)) y q in
       let p : stored_form (assign a0 a1) ≡ stored_form (assign w.0 w.1.0) = q ∙ ap stored_form (w.1.1) in
       (λ i. assign (inj_place a0 w.0 (ap (λ g. head (tail g)) p) i) (inj_val a1 w.1.0 (ap (λ g. head (tail (tail g))) p) i)) ∙ sym (w.1.1)
-  inj_form (update a0 a1 a2) y q =
-      let w = as_update (gcons (binop_row.the_row.coded.code a0) (gcons (stored_place a1) (gcons (stored_val a2) gnil))) y q in
-      let p : stored_form (update a0 a1 a2) ≡ stored_form (update w.0 w.1.0 w.1.1.0) = q ∙ ap stored_form (w.1.1.1) in
-      (λ i. update (binop_row.the_row.coded.inj a0 w.0 (ap (λ g. head (tail g)) p) i) (inj_place a1 w.1.0 (ap (λ g. head (tail (tail g))) p) i) (inj_val a2 w.1.1.0 (ap (λ g. head (tail (tail (tail g)))) p) i)) ∙ sym (w.1.1.1)
+  inj_form (update a0 a1 a2 a3) y q =
+      let w = as_update (gcons (coded_ty.code a0) (gcons (binop_row.the_row.coded.code a1) (gcons (stored_place a2) (gcons (stored_val a3) gnil)))) y q in
+      let p : stored_form (update a0 a1 a2 a3) ≡ stored_form (update w.0 w.1.0 w.1.1.0 w.1.1.1.0) = q ∙ ap stored_form (w.1.1.1.1) in
+      (λ i. update (coded_ty.inj a0 w.0 (ap (λ g. head (tail g)) p) i) (binop_row.the_row.coded.inj a1 w.1.0 (ap (λ g. head (tail (tail g))) p) i) (inj_place a2 w.1.1.0 (ap (λ g. head (tail (tail (tail g)))) p) i) (inj_val a3 w.1.1.1.0 (ap (λ g. head (tail (tail (tail (tail g))))) p) i)) ∙ sym (w.1.1.1.1)
   inj_form (inner a0) y q =
       let w = as_inner (gcons (stored_block a0) gnil) y q in
       let p : stored_form (inner a0) ≡ stored_form (inner w.0) = q ∙ ap stored_form (w.1) in

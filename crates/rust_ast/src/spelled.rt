@@ -79,8 +79,8 @@ pub enum FormNode {
     Call(Callee, List<Ty>, List<Val>),
     /// `=`.
     Assign(Boxed<Place>, Boxed<Val>),
-    /// An operator with `=`.
-    Update(BinOp, Boxed<Place>, Boxed<Val>),
+    /// An operator with `=`: the type of the place, which a shift's value needn't have.
+    Update(Ty, BinOp, Boxed<Place>, Boxed<Val>),
     /// A block.
     Inner(Boxed<Block>),
     /// `match`, and `if` as a `match` on a bool: the scrutinee, and the arms in order.

@@ -37,12 +37,12 @@ unfolding argument bound scrutinee branch_rule select_rule call_rule is_covered 
 row_10 = refl
 
 -- struct S { a: u8, b: Box<(bool, u16)> } fn f(s: &mut S) -> u16 { s.b.1 += 1; s.b.1 }
-row_11 : typed_program (record { types = ((record { name = (83 ∷ []); span = (sp 7 8); params = []; is_struct = true; variants = (((83 ∷ []), (((97 ∷ []), (w.int (sp 14 16) U8)) ∷ (((98 ∷ []), (w.boxed (sp 21 37) (w.tuple (sp 25 36) (w.more_writtens (w.bool (sp 26 30)) (w.more_writtens (w.int (sp 32 35) U16) w.no_writtens))))) ∷ []))) ∷ []) }) ∷ []); functions = ((record { name = (102 ∷ []); span = (sp 43 44); lifetimes = []; type_params = []; params = ((w.ref (sp 48 54) w.elided true (w.named (sp 53 54) (ty 0) w.no_writtens)) ∷ []); result = (Some (w.int (sp 59 62) U16)); variables = ((record { name = (115 ∷ []); span = (sp 45 46); mutable = false; late = false }) ∷ []); body = (e.block (sp 63 84) (e.more_stmts (e.run (e.update (sp 65 75) B.Add (e.field (sp 65 70) (e.field (sp 65 68) (e.variable (sp 65 66) 0) (sp 67 68) (98 ∷ [])) (sp 69 70) (49 ∷ [])) (e.number (sp 74 75) false 1 p.no_suffix)) true) e.no_stmts) (e.some_maybeexpr (e.field (sp 77 82) (e.field (sp 77 80) (e.variable (sp 77 78) 0) (sp 79 80) (98 ∷ [])) (sp 81 82) (49 ∷ [])))) }) ∷ []) }) ≡ Ok (record { decls = ((record { name = (83 ∷ []); span = (sp 7 8); params = []; is_struct = true; variants = ((record { name = (83 ∷ []); fields = (((97 ∷ []), (t.int U8)) ∷ (((98 ∷ []), (t.boxed (t.tuple (t.more_tys t.bool (t.more_tys (t.int U16) t.no_tys))))) ∷ [])) }) ∷ []) }) ∷ []); functions = ((record { name = (102 ∷ []); span = (sp 43 44); lifetimes = []; type_params = []; sig = (record { type_params = 0; regions = 1; params = ((t.ref (rg 0) true (t.named (ty 0) t.no_tys)) ∷ []); result = (t.int U16) }); variables = ((115 ∷ []) ∷ []); types = ((t.ref (rg 0) true (t.named (ty 0) t.no_tys)) ∷ []); body = (s.block (t.int U16) false (sp 63 84) (s.more_stmts (s.run (s.value t.unit false (sp 65 75) (s.update B.Add (s.field (s.unbox (s.field (s.through (s.variable 0)) 1)) 1) (s.value (t.int U16) false (sp 74 75) (s.number (nu U16 (pos 1))))))) s.no_stmts) (s.some_maybevalue (s.value (t.int U16) false (sp 77 82) (s.use_of (s.field (s.unbox (s.field (s.through (s.variable 0)) 1)) 1) true)))) }) ∷ []) })
+row_11 : typed_program (record { types = ((record { name = (83 ∷ []); span = (sp 7 8); params = []; is_struct = true; variants = (((83 ∷ []), (((97 ∷ []), (w.int (sp 14 16) U8)) ∷ (((98 ∷ []), (w.boxed (sp 21 37) (w.tuple (sp 25 36) (w.more_writtens (w.bool (sp 26 30)) (w.more_writtens (w.int (sp 32 35) U16) w.no_writtens))))) ∷ []))) ∷ []) }) ∷ []); functions = ((record { name = (102 ∷ []); span = (sp 43 44); lifetimes = []; type_params = []; params = ((w.ref (sp 48 54) w.elided true (w.named (sp 53 54) (ty 0) w.no_writtens)) ∷ []); result = (Some (w.int (sp 59 62) U16)); variables = ((record { name = (115 ∷ []); span = (sp 45 46); mutable = false; late = false }) ∷ []); body = (e.block (sp 63 84) (e.more_stmts (e.run (e.update (sp 65 75) B.Add (e.field (sp 65 70) (e.field (sp 65 68) (e.variable (sp 65 66) 0) (sp 67 68) (98 ∷ [])) (sp 69 70) (49 ∷ [])) (e.number (sp 74 75) false 1 p.no_suffix)) true) e.no_stmts) (e.some_maybeexpr (e.field (sp 77 82) (e.field (sp 77 80) (e.variable (sp 77 78) 0) (sp 79 80) (98 ∷ [])) (sp 81 82) (49 ∷ [])))) }) ∷ []) }) ≡ Ok (record { decls = ((record { name = (83 ∷ []); span = (sp 7 8); params = []; is_struct = true; variants = ((record { name = (83 ∷ []); fields = (((97 ∷ []), (t.int U8)) ∷ (((98 ∷ []), (t.boxed (t.tuple (t.more_tys t.bool (t.more_tys (t.int U16) t.no_tys))))) ∷ [])) }) ∷ []) }) ∷ []); functions = ((record { name = (102 ∷ []); span = (sp 43 44); lifetimes = []; type_params = []; sig = (record { type_params = 0; regions = 1; params = ((t.ref (rg 0) true (t.named (ty 0) t.no_tys)) ∷ []); result = (t.int U16) }); variables = ((115 ∷ []) ∷ []); types = ((t.ref (rg 0) true (t.named (ty 0) t.no_tys)) ∷ []); body = (s.block (t.int U16) false (sp 63 84) (s.more_stmts (s.run (s.value t.unit false (sp 65 75) (s.update (t.int U16) B.Add (s.field (s.unbox (s.field (s.through (s.variable 0)) 1)) 1) (s.value (t.int U16) false (sp 74 75) (s.number (nu U16 (pos 1))))))) s.no_stmts) (s.some_maybevalue (s.value (t.int U16) false (sp 77 82) (s.use_of (s.field (s.unbox (s.field (s.through (s.variable 0)) 1)) 1) true)))) }) ∷ []) })
 unfolding argument bound scrutinee branch_rule select_rule call_rule is_covered declared_types literal loop_rule give_rule give_nothing leave_rule leave_nothing go_on_rule number_rule variable_rule tuple_rule minus_rule negation_rule operands binary_rule compare_rule lazy_rule cast_rule deref_rule borrow_rule field_rule assign_rule update_rule typed_bodies typed_program signature_of run_rule let_rule let_nothing block_with block_without is_large limit depth
 row_11 = refl
 
 -- enum L { N, C(u8, Box<L>) } fn f(l: &mut L) -> u8 { match l { L::C(x, t) => { *x += 1; f(t) } L::N => 0 } }
-row_12 : typed_program (record { types = ((record { name = (76 ∷ []); span = (sp 5 6); params = []; is_struct = false; variants = (((78 ∷ []), []) ∷ (((67 ∷ []), (((48 ∷ []), (w.int (sp 14 16) U8)) ∷ (((49 ∷ []), (w.boxed (sp 18 24) (w.named (sp 22 23) (ty 0) w.no_writtens))) ∷ []))) ∷ [])) }) ∷ []); functions = ((record { name = (102 ∷ []); span = (sp 31 32); lifetimes = []; type_params = []; params = ((w.ref (sp 36 42) w.elided true (w.named (sp 41 42) (ty 0) w.no_writtens)) ∷ []); result = (Some (w.int (sp 47 49) U8)); variables = ((record { name = (108 ∷ []); span = (sp 33 34); mutable = false; late = false }) ∷ ((record { name = (120 ∷ []); span = (sp 67 68); mutable = false; late = false }) ∷ ((record { name = (116 ∷ []); span = (sp 70 71); mutable = false; late = false }) ∷ []))); body = (e.block (sp 50 107) e.no_stmts (e.some_maybeexpr (e.select (sp 52 105) (e.variable (sp 58 59) 0) (e.more_arms (p.construct (sp 62 72) (ty 0) 1 w.no_turbo (p.more_pats (p.bind (sp 67 68) (sp 67 68) false 1) (p.more_pats (p.bind (sp 70 71) (sp 70 71) false 2) p.no_pats))) (e.inner (e.block (sp 76 93) (e.more_stmts (e.run (e.update (sp 78 85) B.Add (e.deref (sp 78 80) (e.variable (sp 79 80) 1)) (e.number (sp 84 85) false 1 p.no_suffix)) true) e.no_stmts) (e.some_maybeexpr (e.call (sp 87 91) (e.function 0) w.no_turbo (e.more_exprs (e.variable (sp 89 90) 2) e.no_exprs))))) (e.more_arms (p.construct (sp 94 98) (ty 0) 0 w.no_turbo p.no_pats) (e.number (sp 102 103) false 0 p.no_suffix) e.no_arms))))) }) ∷ []) }) ≡ Ok (record { decls = ((record { name = (76 ∷ []); span = (sp 5 6); params = []; is_struct = false; variants = ((record { name = (78 ∷ []); fields = [] }) ∷ ((record { name = (67 ∷ []); fields = (((48 ∷ []), (t.int U8)) ∷ (((49 ∷ []), (t.boxed (t.named (ty 0) t.no_tys))) ∷ [])) }) ∷ [])) }) ∷ []); functions = ((record { name = (102 ∷ []); span = (sp 31 32); lifetimes = []; type_params = []; sig = (record { type_params = 0; regions = 1; params = ((t.ref (rg 0) true (t.named (ty 0) t.no_tys)) ∷ []); result = (t.int U8) }); variables = ((108 ∷ []) ∷ ((120 ∷ []) ∷ ((116 ∷ []) ∷ []))); types = ((t.ref (rg 0) true (t.named (ty 0) t.no_tys)) ∷ ((t.ref (rg 0) true (t.int U8)) ∷ ((t.ref (rg 0) true (t.boxed (t.named (ty 0) t.no_tys))) ∷ []))); body = (s.block (t.int U8) false (sp 50 107) s.no_stmts (s.some_maybevalue (s.value (t.int U8) false (sp 52 105) (s.select (s.stands (t.ref (rg 0) true (t.named (ty 0) t.no_tys)) (sp 58 59) (s.variable 0)) (s.more_arms (q.through true (q.construct (ty 0) 1 (q.more_fieldpats 0 (q.bind (sp 67 68) 1 (q.refer true)) (q.more_fieldpats 1 (q.bind (sp 70 71) 2 (q.refer true)) q.no_fieldpats)))) (s.value (t.int U8) false (sp 76 93) (s.inner (s.block (t.int U8) false (sp 76 93) (s.more_stmts (s.run (s.value t.unit false (sp 78 85) (s.update B.Add (s.through (s.variable 1)) (s.value (t.int U8) false (sp 84 85) (s.number (nu U8 (pos 1))))))) s.no_stmts) (s.some_maybevalue (s.value (t.int U8) false (sp 87 91) (s.call (s.function 0) t.no_tys (s.more_values (s.value (t.ref (rg 0) true (t.named (ty 0) t.no_tys)) false (sp 89 90) (s.borrow true (s.unbox (s.through (s.variable 2))))) s.no_values))))))) (s.more_arms (q.through true (q.construct (ty 0) 0 q.no_fieldpats)) (s.value (t.int U8) false (sp 102 103) (s.number (nu U8 (pos 0)))) s.no_arms)))))) }) ∷ []) })
+row_12 : typed_program (record { types = ((record { name = (76 ∷ []); span = (sp 5 6); params = []; is_struct = false; variants = (((78 ∷ []), []) ∷ (((67 ∷ []), (((48 ∷ []), (w.int (sp 14 16) U8)) ∷ (((49 ∷ []), (w.boxed (sp 18 24) (w.named (sp 22 23) (ty 0) w.no_writtens))) ∷ []))) ∷ [])) }) ∷ []); functions = ((record { name = (102 ∷ []); span = (sp 31 32); lifetimes = []; type_params = []; params = ((w.ref (sp 36 42) w.elided true (w.named (sp 41 42) (ty 0) w.no_writtens)) ∷ []); result = (Some (w.int (sp 47 49) U8)); variables = ((record { name = (108 ∷ []); span = (sp 33 34); mutable = false; late = false }) ∷ ((record { name = (120 ∷ []); span = (sp 67 68); mutable = false; late = false }) ∷ ((record { name = (116 ∷ []); span = (sp 70 71); mutable = false; late = false }) ∷ []))); body = (e.block (sp 50 107) e.no_stmts (e.some_maybeexpr (e.select (sp 52 105) (e.variable (sp 58 59) 0) (e.more_arms (p.construct (sp 62 72) (ty 0) 1 w.no_turbo (p.more_pats (p.bind (sp 67 68) (sp 67 68) false 1) (p.more_pats (p.bind (sp 70 71) (sp 70 71) false 2) p.no_pats))) (e.inner (e.block (sp 76 93) (e.more_stmts (e.run (e.update (sp 78 85) B.Add (e.deref (sp 78 80) (e.variable (sp 79 80) 1)) (e.number (sp 84 85) false 1 p.no_suffix)) true) e.no_stmts) (e.some_maybeexpr (e.call (sp 87 91) (e.function 0) w.no_turbo (e.more_exprs (e.variable (sp 89 90) 2) e.no_exprs))))) (e.more_arms (p.construct (sp 94 98) (ty 0) 0 w.no_turbo p.no_pats) (e.number (sp 102 103) false 0 p.no_suffix) e.no_arms))))) }) ∷ []) }) ≡ Ok (record { decls = ((record { name = (76 ∷ []); span = (sp 5 6); params = []; is_struct = false; variants = ((record { name = (78 ∷ []); fields = [] }) ∷ ((record { name = (67 ∷ []); fields = (((48 ∷ []), (t.int U8)) ∷ (((49 ∷ []), (t.boxed (t.named (ty 0) t.no_tys))) ∷ [])) }) ∷ [])) }) ∷ []); functions = ((record { name = (102 ∷ []); span = (sp 31 32); lifetimes = []; type_params = []; sig = (record { type_params = 0; regions = 1; params = ((t.ref (rg 0) true (t.named (ty 0) t.no_tys)) ∷ []); result = (t.int U8) }); variables = ((108 ∷ []) ∷ ((120 ∷ []) ∷ ((116 ∷ []) ∷ []))); types = ((t.ref (rg 0) true (t.named (ty 0) t.no_tys)) ∷ ((t.ref (rg 0) true (t.int U8)) ∷ ((t.ref (rg 0) true (t.boxed (t.named (ty 0) t.no_tys))) ∷ []))); body = (s.block (t.int U8) false (sp 50 107) s.no_stmts (s.some_maybevalue (s.value (t.int U8) false (sp 52 105) (s.select (s.stands (t.ref (rg 0) true (t.named (ty 0) t.no_tys)) (sp 58 59) (s.variable 0)) (s.more_arms (q.through true (q.construct (ty 0) 1 (q.more_fieldpats 0 (q.bind (sp 67 68) 1 (q.refer true)) (q.more_fieldpats 1 (q.bind (sp 70 71) 2 (q.refer true)) q.no_fieldpats)))) (s.value (t.int U8) false (sp 76 93) (s.inner (s.block (t.int U8) false (sp 76 93) (s.more_stmts (s.run (s.value t.unit false (sp 78 85) (s.update (t.int U8) B.Add (s.through (s.variable 1)) (s.value (t.int U8) false (sp 84 85) (s.number (nu U8 (pos 1))))))) s.no_stmts) (s.some_maybevalue (s.value (t.int U8) false (sp 87 91) (s.call (s.function 0) t.no_tys (s.more_values (s.value (t.ref (rg 0) true (t.named (ty 0) t.no_tys)) false (sp 89 90) (s.borrow true (s.unbox (s.through (s.variable 2))))) s.no_values))))))) (s.more_arms (q.through true (q.construct (ty 0) 0 q.no_fieldpats)) (s.value (t.int U8) false (sp 102 103) (s.number (nu U8 (pos 0)))) s.no_arms)))))) }) ∷ []) })
 unfolding argument bound scrutinee branch_rule select_rule call_rule is_covered declared_types literal loop_rule give_rule give_nothing leave_rule leave_nothing go_on_rule number_rule variable_rule tuple_rule minus_rule negation_rule operands binary_rule compare_rule lazy_rule cast_rule deref_rule borrow_rule field_rule assign_rule update_rule typed_bodies typed_program signature_of run_rule let_rule let_nothing block_with block_without is_large limit depth
 row_12 = refl
 
@@ -52,7 +52,7 @@ unfolding argument bound scrutinee branch_rule select_rule call_rule is_covered 
 row_13 = refl
 
 -- fn f(n: u32) -> u32 { let mut i = 0u32; let mut s = 0u32; while i < n { s = s + i; i += 1; } s }
-row_14 : typed_program (record { types = []; functions = ((record { name = (102 ∷ []); span = (sp 3 4); lifetimes = []; type_params = []; params = ((w.int (sp 8 11) U32) ∷ []); result = (Some (w.int (sp 16 19) U32)); variables = ((record { name = (110 ∷ []); span = (sp 5 6); mutable = false; late = false }) ∷ ((record { name = (105 ∷ []); span = (sp 30 31); mutable = true; late = false }) ∷ ((record { name = (115 ∷ []); span = (sp 48 49); mutable = true; late = false }) ∷ []))); body = (e.block (sp 20 96) (e.more_stmts (e.bind (sp 22 38) (p.bind (sp 26 31) (sp 30 31) true 1) w.no_maybewritten (e.some_maybeexpr (e.number (sp 34 38) false 0 (p.some_suffix U32)))) (e.more_stmts (e.bind (sp 40 56) (p.bind (sp 44 49) (sp 48 49) true 2) w.no_maybewritten (e.some_maybeexpr (e.number (sp 52 56) false 0 (p.some_suffix U32)))) (e.more_stmts (e.run (e.forever (sp 58 92) 0 true (e.block (sp 58 92) e.no_stmts (e.some_maybeexpr (e.branch (sp 58 92) (e.compare (sp 64 69) C.Lt (e.variable (sp 64 65) 1) (e.variable (sp 68 69) 0)) (e.block (sp 70 92) (e.more_stmts (e.run (e.assign (sp 72 81) (e.variable (sp 72 73) 2) (e.binary (sp 76 81) B.Add (e.variable (sp 76 77) 2) (e.variable (sp 80 81) 1))) true) (e.more_stmts (e.run (e.update (sp 83 89) B.Add (e.variable (sp 83 84) 1) (e.number (sp 88 89) false 1 p.no_suffix)) true) e.no_stmts)) e.no_maybeexpr) (e.inner (e.block (sp 58 92) e.no_stmts (e.some_maybeexpr (e.leave (sp 58 92) e.no_maybeexpr)))))))) false) e.no_stmts))) (e.some_maybeexpr (e.variable (sp 93 94) 2))) }) ∷ []) }) ≡ Ok (record { decls = []; functions = ((record { name = (102 ∷ []); span = (sp 3 4); lifetimes = []; type_params = []; sig = (record { type_params = 0; regions = 0; params = ((t.int U32) ∷ []); result = (t.int U32) }); variables = ((110 ∷ []) ∷ ((105 ∷ []) ∷ ((115 ∷ []) ∷ []))); types = ((t.int U32) ∷ ((t.int U32) ∷ ((t.int U32) ∷ []))); body = (s.block (t.int U32) false (sp 20 96) (s.more_stmts (s.put (sp 22 38) 1 (s.value (t.int U32) false (sp 34 38) (s.number (nu U32 (pos 0))))) (s.more_stmts (s.put (sp 40 56) 2 (s.value (t.int U32) false (sp 52 56) (s.number (nu U32 (pos 0))))) (s.more_stmts (s.run (s.value t.unit false (sp 58 92) (s.forever 0 true true (s.block t.unit false (sp 58 92) s.no_stmts (s.some_maybevalue (s.value t.unit false (sp 58 92) (s.select (s.held (s.value t.bool false (sp 64 69) (s.compare C.Lt (s.value (t.int U32) false (sp 64 65) (s.use_of (s.variable 1) true)) (s.value (t.int U32) false (sp 68 69) (s.use_of (s.variable 0) true))))) (s.more_arms (q.truth true) (s.value t.unit false (sp 70 92) (s.inner (s.block t.unit false (sp 70 92) (s.more_stmts (s.run (s.value t.unit false (sp 72 81) (s.assign (s.variable 2) (s.value (t.int U32) false (sp 76 81) (s.binary B.Add (s.value (t.int U32) false (sp 76 77) (s.use_of (s.variable 2) true)) (s.value (t.int U32) false (sp 80 81) (s.use_of (s.variable 1) true))))))) (s.more_stmts (s.run (s.value t.unit false (sp 83 89) (s.update B.Add (s.variable 1) (s.value (t.int U32) false (sp 88 89) (s.number (nu U32 (pos 1))))))) s.no_stmts)) s.no_maybevalue))) (s.more_arms (q.truth false) (s.value t.unit true (sp 58 92) (s.inner (s.block t.unit true (sp 58 92) s.no_stmts (s.some_maybevalue (s.value t.unit true (sp 58 92) (s.leave 0 s.no_maybevalue)))))) s.no_arms))))))))) s.no_stmts))) (s.some_maybevalue (s.value (t.int U32) false (sp 93 94) (s.use_of (s.variable 2) true)))) }) ∷ []) })
+row_14 : typed_program (record { types = []; functions = ((record { name = (102 ∷ []); span = (sp 3 4); lifetimes = []; type_params = []; params = ((w.int (sp 8 11) U32) ∷ []); result = (Some (w.int (sp 16 19) U32)); variables = ((record { name = (110 ∷ []); span = (sp 5 6); mutable = false; late = false }) ∷ ((record { name = (105 ∷ []); span = (sp 30 31); mutable = true; late = false }) ∷ ((record { name = (115 ∷ []); span = (sp 48 49); mutable = true; late = false }) ∷ []))); body = (e.block (sp 20 96) (e.more_stmts (e.bind (sp 22 38) (p.bind (sp 26 31) (sp 30 31) true 1) w.no_maybewritten (e.some_maybeexpr (e.number (sp 34 38) false 0 (p.some_suffix U32)))) (e.more_stmts (e.bind (sp 40 56) (p.bind (sp 44 49) (sp 48 49) true 2) w.no_maybewritten (e.some_maybeexpr (e.number (sp 52 56) false 0 (p.some_suffix U32)))) (e.more_stmts (e.run (e.forever (sp 58 92) 0 true (e.block (sp 58 92) e.no_stmts (e.some_maybeexpr (e.branch (sp 58 92) (e.compare (sp 64 69) C.Lt (e.variable (sp 64 65) 1) (e.variable (sp 68 69) 0)) (e.block (sp 70 92) (e.more_stmts (e.run (e.assign (sp 72 81) (e.variable (sp 72 73) 2) (e.binary (sp 76 81) B.Add (e.variable (sp 76 77) 2) (e.variable (sp 80 81) 1))) true) (e.more_stmts (e.run (e.update (sp 83 89) B.Add (e.variable (sp 83 84) 1) (e.number (sp 88 89) false 1 p.no_suffix)) true) e.no_stmts)) e.no_maybeexpr) (e.inner (e.block (sp 58 92) e.no_stmts (e.some_maybeexpr (e.leave (sp 58 92) e.no_maybeexpr)))))))) false) e.no_stmts))) (e.some_maybeexpr (e.variable (sp 93 94) 2))) }) ∷ []) }) ≡ Ok (record { decls = []; functions = ((record { name = (102 ∷ []); span = (sp 3 4); lifetimes = []; type_params = []; sig = (record { type_params = 0; regions = 0; params = ((t.int U32) ∷ []); result = (t.int U32) }); variables = ((110 ∷ []) ∷ ((105 ∷ []) ∷ ((115 ∷ []) ∷ []))); types = ((t.int U32) ∷ ((t.int U32) ∷ ((t.int U32) ∷ []))); body = (s.block (t.int U32) false (sp 20 96) (s.more_stmts (s.put (sp 22 38) 1 (s.value (t.int U32) false (sp 34 38) (s.number (nu U32 (pos 0))))) (s.more_stmts (s.put (sp 40 56) 2 (s.value (t.int U32) false (sp 52 56) (s.number (nu U32 (pos 0))))) (s.more_stmts (s.run (s.value t.unit false (sp 58 92) (s.forever 0 true true (s.block t.unit false (sp 58 92) s.no_stmts (s.some_maybevalue (s.value t.unit false (sp 58 92) (s.select (s.held (s.value t.bool false (sp 64 69) (s.compare C.Lt (s.value (t.int U32) false (sp 64 65) (s.use_of (s.variable 1) true)) (s.value (t.int U32) false (sp 68 69) (s.use_of (s.variable 0) true))))) (s.more_arms (q.truth true) (s.value t.unit false (sp 70 92) (s.inner (s.block t.unit false (sp 70 92) (s.more_stmts (s.run (s.value t.unit false (sp 72 81) (s.assign (s.variable 2) (s.value (t.int U32) false (sp 76 81) (s.binary B.Add (s.value (t.int U32) false (sp 76 77) (s.use_of (s.variable 2) true)) (s.value (t.int U32) false (sp 80 81) (s.use_of (s.variable 1) true))))))) (s.more_stmts (s.run (s.value t.unit false (sp 83 89) (s.update (t.int U32) B.Add (s.variable 1) (s.value (t.int U32) false (sp 88 89) (s.number (nu U32 (pos 1))))))) s.no_stmts)) s.no_maybevalue))) (s.more_arms (q.truth false) (s.value t.unit true (sp 58 92) (s.inner (s.block t.unit true (sp 58 92) s.no_stmts (s.some_maybevalue (s.value t.unit true (sp 58 92) (s.leave 0 s.no_maybevalue)))))) s.no_arms))))))))) s.no_stmts))) (s.some_maybevalue (s.value (t.int U32) false (sp 93 94) (s.use_of (s.variable 2) true)))) }) ∷ []) })
 unfolding argument bound scrutinee branch_rule select_rule call_rule is_covered declared_types literal loop_rule give_rule give_nothing leave_rule leave_nothing go_on_rule number_rule variable_rule tuple_rule minus_rule negation_rule operands binary_rule compare_rule lazy_rule cast_rule deref_rule borrow_rule field_rule assign_rule update_rule typed_bodies typed_program signature_of run_rule let_rule let_nothing block_with block_without is_large limit depth
 row_14 = refl
 

@@ -37,9 +37,8 @@ abbrev pub may_lend : Frame → Bool → s.Place → Bool
 may_lend c m p = not m || is_exclusive c p
 
 -- an operator with `=` at a place of this type, with a value of that type
-abbrev pub Updates : BinOp → Option t.Ty → t.Ty → Type 0
-Updates op None y = ⊥
-Updates op (Some x) y = (takes_type op x ≡ true) × ((if is_shift op then is_integer y else same x y) ≡ true)
+abbrev pub Updates : BinOp → t.Ty → t.Ty → Type 0
+Updates op x y = (takes_type op x ≡ true) × ((if is_shift op then is_integer y else same x y) ≡ true)
 
 -- a value of this type goes wherever this type is asked for; what never ends goes everywhere
 abbrev pub Goes : s.Val → t.Ty → Type 0
@@ -100,8 +99,8 @@ abbrev mutual
   NodeFits c x never (s.either a b) = (never ≡ false) × ValFits c a × ValFits c b × Same t.bool x × Same t.bool (type_of a) × Same t.bool (type_of b)
   NodeFits c x never (s.call f args vs) = (never ≡ false) × CallFits c (sig_of c f) args vs x × ValuesFit c vs
   NodeFits c x never (s.assign p v) = (never ≡ false) × PlaceFits c p × ValFits c v × Same t.unit x × Found (place_type c p) (type_of v) × (is_exclusive c p ≡ true)
-  NodeFits c x never (s.update op p v) =
-      (never ≡ false) × PlaceFits c p × ValFits c v × Same t.unit x × Updates op (place_type c p) (type_of v)
+  NodeFits c x never (s.update y op p v) =
+      (never ≡ false) × PlaceFits c p × ValFits c v × Same t.unit x × Found (place_type c p) y × Updates op y (type_of v)
       × (is_exclusive c p ≡ true)
   NodeFits c x never (s.inner b) = (never ≡ block_never b) × Same (block_type b) x × BlockFits c b
   NodeFits c x never (s.select k arms) =

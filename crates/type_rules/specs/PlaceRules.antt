@@ -69,4 +69,4 @@ update_rule p op a b st =
     and_then (target a st) (λ l.
     refuse (is_not_integer (takes_type op) (raw_type l.0)) a.span NotInteger (
     and_then (update_value op b (raw_type l.0) l.1) (λ r.
-    gives (of_type t.unit p (s.update op (the_place l.0) r.0)) r.1)))
+    gives (of_type t.unit p (s.update (raw_type l.0) op (the_place l.0) r.0)) r.1)))
