@@ -1,5 +1,6 @@
 # The trees of a source: crates/rust_ast. Names as they are written (Source..) and names resolved
-# (Written, Patterns, Resolved) have one description; they differ in what stands for a use.
+# (Written, Patterns, Resolved) have one description; they differ in what stands for a use. What typing
+# writes out (Spelled..) is a tree of its own: places are a sort, and each value has its type.
 STD = '''use Rattle.std.specs.Prelude.{◌≡◌, ℕ, zero, suc, ◌+◌, Bool, List, [], ◌∷◌, Option, Some, None, refl}
 use Rattle.std.specs.Coded.{Coded, coded_ℕ, coded_bool, coded_list}
 use Rattle.std.proofs.Common.{ap, sym, ◌∙◌, subst}
@@ -210,7 +211,92 @@ def expression_tree(resolved):
     )
 
 
+# ------------------------------------------------------------------------- types and reborrows written out
+NUMBER = "use Rattle.aen_base.specs.Numbers.{Number, coded_number}\n"
+SPELLED_PATTERN_SORTS = {
+    "Mode": [("copy", []), ("move", []), ("refer", ["Bool"])],
+    "Pat": [("wild", []), ("bind", ["Span", "ℕ", "Mode"]), ("number", ["Number"]), ("truth", ["Bool"]), ("tuple", ["Pats"]),
+            ("construct", ["TypeId", "ℕ", "FieldPats"]), ("through", ["Bool", "Pat"])],
+}
+SPELLED_PATTERN_DOCS = {
+    "Mode": "How a name takes what it meets.", "copy": "It copies the value.", "move": "It moves the value.",
+    "refer": "It is a reference to the part; true for `&mut`.",
+    "Pat": "A pattern, with what it looks through and how its names bind.", "wild": "`_`.",
+    "bind": "A variable: the span of the pattern, its number, how it takes what it meets.",
+    "number": "An integer with its type.", "truth": "`true` or `false`.", "tuple": "A tuple of these parts, or `()`.",
+    "construct": "A variant of a declared type, of a struct the variant 0: the parts with the numbers of their fields.",
+    "through": "The pattern of what a reference leads to; true for `&mut`.",
+}
+SPELLED_SORTS = {
+    "Val": [("value", ["Ty", "Bool", "Span", "Form"])],
+    "Callee": [("function", ["ℕ"]), ("builtin_of", ["Builtin"])],
+    "Form": [("number", ["Number"]), ("truth", ["Bool"]), ("tuple", ["Values"]), ("construct", ["TypeId", "ℕ", "Parts"]),
+             ("use_of", ["Place", "Bool"]), ("field_of", ["Val", "ℕ", "Bool"]), ("unbox_of", ["Val", "Bool"]),
+             ("borrow", ["Bool", "Place"]), ("minus", ["Val"]), ("negation", ["Val"]), ("binary", ["BinOp", "Val", "Val"]),
+             ("compare", ["CmpOp", "Val", "Val"]), ("cast", ["Val", "IntTy"]), ("both", ["Val", "Val"]), ("either", ["Val", "Val"]),
+             ("call", ["Callee", "Tys", "Values"]), ("assign", ["Place", "Val"]), ("update", ["Ty", "BinOp", "Place", "Val"]),
+             ("inner", ["Block"]), ("select", ["Scrutinee", "Arms"]), ("forever", ["ℕ", "Bool", "Bool", "Block"]),
+             ("leave", ["ℕ", "MaybeValue"]), ("go_on", ["ℕ"]), ("give", ["MaybeValue"]), ("panic", [])],
+    "Place": [("variable", ["ℕ"]), ("field", ["Place", "ℕ"]), ("unbox", ["Place"]), ("through", ["Place"]), ("through_value", ["Val"])],
+    "Scrutinee": [("stands", ["Ty", "Span", "Place"]), ("held", ["Val"])],
+    "Stmt": [("run", ["Val"]), ("put", ["Span", "ℕ", "Val"]), ("pass", ["Span", "Val"]), ("open_up", ["Span", "Scrutinee", "Pat"]),
+             ("later", ["Span", "Variables"])],
+    "Block": [("block", ["Ty", "Bool", "Span", "Stmts", "MaybeValue"])],
+}
+SPELLED_DOCS = {
+    "Val": "An expression that gives a value.",
+    "value": "Its type, whether it has every type since it never gives one, its span, and what it is.",
+    "Callee": "What is called.", "function": "A function, by its number.", "builtin_of": "A built-in function.",
+    "Form": "What a value is.", "number": "An integer with its type.", "truth": "`true` or `false`.",
+    "tuple": "A tuple of these parts, or `()`.",
+    "construct": "A variant of a declared type, of a struct the variant 0: the parts in written order with the numbers of their fields.",
+    "use_of": "What stands at a place, copied where true, else moved.",
+    "field_of": "A field of a value that stands at no place, copied where true, else moved.",
+    "unbox_of": "What is in a box that stands at no place, copied where true, else moved.",
+    "borrow": "`&` of a place, or `&mut` where true.", "minus": "`-`.", "negation": "`!`.", "binary": "An operator on two numbers or bools.",
+    "compare": "A comparison.", "cast": "`as`.", "both": "`&&`.", "either": "`||`.",
+    "call": "A call with its type arguments.", "assign": "`=`.", "update": "An operator with `=`: the type of the place, which a shift's value needn't have.", "inner": "A block.",
+    "select": "`match`, and `if` as a `match` on a bool: the scrutinee, and the arms in order.",
+    "forever": "A loop: its number in the function, whether it is written with `while`, whether it has a `break`, and its body.",
+    "leave": "`break` of the loop with this number.", "go_on": "`continue` of the loop with this number.", "give": "`return`.", "panic": "`panic!`.",
+    "Place": "A place. What uses it has its type and its span.", "variable": "A variable, by its number.", "field": "A field of a place, by its number.",
+    "unbox": "What is in the box at a place.", "through": "What the reference at a place leads to.",
+    "through_value": "What a reference that stands at no place leads to.",
+    "Scrutinee": "What a `match` looks at.", "stands": "A place, with its type and span.", "held": "A value.",
+    "Stmt": "A statement.", "run": "A value that is passed over.", "put": "`let` of one name: its span, the variable, the value.",
+    "pass": "`let _`: its span, the value.", "open_up": "`let` of any other pattern: its span, what it looks at, the pattern.",
+    "later": "`let` without a value: its span, the variables in order.",
+    "Block": "A block.", "block": "Its type, whether it has every type, its span, the statements, and the last value, which it gives.",
+}
+
+
+def spelled_patterns():
+    atom = ["Span", "TypeId"]
+    return dict(
+        ABOUT='Patterns with what they look through and how their names bind (LANGUAGE.md, "Types").',
+        HEAD=STD + uses(atom) + NUMBER, ATOMS={**atoms(atom), "Number": "coded_number"}, SORTS=SPELLED_PATTERN_SORTS,
+        LISTS={"Pats": ["Pat"], "FieldPats": ["ℕ", "Pat"]}, OPTIONS={},
+        USE="use aen_base::{Boxed, List, Num, Span, TypeId};", DOCS=SPELLED_PATTERN_DOCS,
+    )
+
+
+def spelled():
+    atom = ["Span", "TypeId", "IntTy", "BinOp", "CmpOp", "Builtin"]
+    return dict(
+        ABOUT='Expressions with types, reborrows and dereferences written out (LANGUAGE.md, "Types").',
+        HEAD=STD + uses(atom) + NUMBER + "use Rattle.core_ty.specs.Types.{Ty, coded_ty, Tys, coded_tys}\n"
+            + "use Rattle.rust_ast.specs.SpelledPatterns.{Pat, coded_pat}\n",
+        ATOMS={**atoms(atom, ["Ty", "Tys", "Pat"]), "Number": "coded_number"}, SORTS=SPELLED_SORTS,
+        LISTS={"Values": ["Val"], "Parts": ["ℕ", "Val"], "Arms": ["Pat", "Val"], "Stmts": ["Stmt"], "Variables": ["ℕ"]},
+        OPTIONS={"MaybeValue": ["Val"]}, CODE={"Ty": ("Ty", None), "Tys": ("List<Ty>", "ty.tys"), "Pat": ("Pat", None)},
+        VIEWS=["use Rattle.core_ty.specs.Types as ty"],
+        USE="use crate::spelled_patterns::Pat;\nuse aen_base::{BinOp, Boxed, Builtin, CmpOp, IntTy, List, Num, Span, TypeId};\nuse core_ty::Ty;",
+        FALLS=["use Rattle.rust_ast.specs.SpelledPatterns.{Pat}"], DOCS=SPELLED_DOCS,
+    )
+
+
 TREES = {
     "SourceTypes": type_tree(False), "SourcePatterns": pattern_tree(False), "Source": expression_tree(False),
     "Written": type_tree(True), "Patterns": pattern_tree(True), "Resolved": expression_tree(True),
+    "SpelledPatterns": spelled_patterns(), "Spelled": spelled(),
 }

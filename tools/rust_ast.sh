@@ -3,7 +3,7 @@
 # go by rt check --fix-imports).
 set -eu
 cd "$(dirname "$0")/.."
-for tree in SourceTypes SourcePatterns Source Written Patterns Resolved; do
+for tree in SourceTypes SourcePatterns Source Written Patterns Resolved SpelledPatterns Spelled; do
     python3 tools/trees.py tools/rust_ast.desc.py tag "$tree" > "crates/rust_ast/specs/$tree.antt"
     python3 tools/code.py tools/rust_ast.desc.py "$tree" rust_ast crates/rust_ast
 done

@@ -16,3 +16,9 @@ pub mod PatternsFalls
 pub mod Resolved
 pub mod ResolvedView
 pub mod ResolvedFalls
+pub mod SpelledPatterns
+pub mod SpelledPatternsView
+pub mod SpelledPatternsFalls
+pub mod Spelled
+pub mod SpelledView
+pub mod SpelledFalls
