@@ -1,5 +1,5 @@
 -- The tokens of expressions, statements and blocks are spelled as they are printed.
-use Rattle.std.proofs.Common.{◌≡◌, refl, append_assoc, ℕ, Bool, true, false, List, [], ◌∷◌, ◌++◌, Option, Some, None}
+use Rattle.std.proofs.Common.{◌≡◌, refl, append_assoc, ℕ, Bool, true, false, List, ◌++◌}
 use Rattle.rust_ast.specs.Source as s
 use Rattle.rust_ast.specs.SourceTypes as t
 use Rattle.rust_printer.specs.Tok.{Tok, spelled}

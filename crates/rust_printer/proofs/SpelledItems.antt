@@ -1,5 +1,5 @@
 -- The tokens of a program are spelled as it is printed.
-use Rattle.std.proofs.Common.{◌≡◌, refl, append_assoc, ℕ, Bool, true, false, List, [], ◌∷◌, ◌++◌, Option, Some, None}
+use Rattle.std.proofs.Common.{◌≡◌, refl, append_assoc, ℕ, List, [], ◌∷◌, ◌++◌, Option, Some, None}
 use Rattle.aen_base.specs.declared.span.Span.{Span}
 use Rattle.rust_ast.specs.declared.ident.Ident.{Ident}
 use Rattle.rust_ast.specs.declared.program.Program.{Program}

@@ -1,5 +1,5 @@
 -- The tokens of patterns are spelled as they are printed.
-use Rattle.std.proofs.Common.{◌≡◌, refl, append_assoc, ℕ, Bool, true, false, List, [], ◌∷◌, ◌++◌, Option, Some, None}
+use Rattle.std.proofs.Common.{◌≡◌, refl, append_assoc, List, ◌++◌}
 use Rattle.rust_ast.specs.SourcePatterns as p
 use Rattle.rust_printer.specs.Tok.{Tok, spelled}
 use Rattle.rust_printer.specs.PatternTokens.{pattern_tokens, field_pattern_tokens, patterns_tokens, field_patterns_tokens}

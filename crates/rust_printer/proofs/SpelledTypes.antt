@@ -1,5 +1,5 @@
 -- The tokens of types and paths are spelled as they are printed.
-use Rattle.std.proofs.Common.{◌≡◌, refl, append_assoc, ℕ, Bool, true, false, List, [], ◌∷◌, ◌++◌, Option, Some, None}
+use Rattle.std.proofs.Common.{◌≡◌, refl, append_assoc, Bool, true, false, List, ◌++◌}
 use Rattle.rust_ast.specs.SourceTypes as t
 use Rattle.rust_printer.specs.Tok.{Tok, spelled}
 use Rattle.rust_printer.specs.TypeTokens.{lifetime_tokens, type_tokens, arguments_tokens, types_tokens, turbo_tokens, std_tokens, path_tokens}

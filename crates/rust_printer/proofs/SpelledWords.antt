@@ -1,11 +1,11 @@
 -- The tokens of words and marks are spelled as they are printed.
-use Rattle.std.proofs.Common.{◌≡◌, refl, append_assoc, ℕ, Bool, true, false, List, [], ◌∷◌, ◌++◌, Option, Some, None}
+use Rattle.std.proofs.Common.{◌≡◌, refl, append_assoc, ℕ, Bool, true, false, List, ◌++◌}
 use Rattle.aen_base.specs.declared.operators.BinOp.{BinOp}
 use Rattle.aen_base.specs.declared.operators.BinOp.TheVariants as bin
 use Rattle.aen_base.specs.declared.operators.CmpOp.{CmpOp}
 use Rattle.aen_base.specs.declared.operators.CmpOp.TheVariants as cmp
 use Rattle.rust_ast.specs.Patterns as suffixes
-use Rattle.rust_printer.specs.Tok.{Tok, spelling, after, spelled}
+use Rattle.rust_printer.specs.Tok.{Tok, spelled}
 use Rattle.rust_printer.specs.WordTokens.{bin_tokens, update_tokens, cmp_tokens, truth_tokens, mut_tokens, sign_tokens, number_tokens}
 use Rattle.rust_printer.specs.ShownWords.{bin_mark, update_mark, cmp_mark, truth_text, mut_text, sign_text, number_text}
 

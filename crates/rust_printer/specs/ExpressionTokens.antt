@@ -1,5 +1,5 @@
 -- The tokens of expressions, statements and blocks.
-use Rattle.std.specs.Prelude.{Bool, true, false, List, [], ◌∷◌, ◌++◌, codes}
+use Rattle.std.specs.Prelude.{Bool, true, false, List, ◌∷◌, codes}
 use Rattle.rust_ast.specs.Source as s
 use Rattle.rust_ast.specs.SourceTypes as t
 use Rattle.source_grammar.specs.declared.class.Class.TheVariants as C

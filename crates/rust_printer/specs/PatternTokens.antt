@@ -1,5 +1,5 @@
 -- The tokens of patterns.
-use Rattle.std.specs.Prelude.{List, [], ◌∷◌, ◌++◌}
+use Rattle.std.specs.Prelude.{List, ◌∷◌}
 use Rattle.rust_ast.specs.SourcePatterns as p
 use Rattle.source_grammar.specs.declared.class.Class.TheVariants as C
 use Rattle.rust_printer.specs.Tok.{Tok, mark, named}

@@ -1,6 +1,6 @@
 -- How expressions, statements and blocks are printed. An operand that the grammar reads as one without brackets has
 -- none; a condition and what is matched always has.
-use Rattle.std.specs.Prelude.{ℕ, Bool, true, false, List, [], ◌∷◌, ◌++◌, codes}
+use Rattle.std.specs.Prelude.{ℕ, Bool, true, false, List, [], ◌++◌, codes}
 use Rattle.rust_ast.specs.Source as s
 use Rattle.rust_ast.specs.SourceTypes as t
 use Rattle.rust_printer.specs.ShownWords.{int_word, word_text, truth_text, mut_text, number_text, bin_mark, update_mark, cmp_mark}

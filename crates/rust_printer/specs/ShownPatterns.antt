@@ -1,5 +1,5 @@
 -- How patterns are printed.
-use Rattle.std.specs.Prelude.{ℕ, List, [], ◌∷◌, ◌++◌, codes}
+use Rattle.std.specs.Prelude.{ℕ, List, [], ◌++◌, codes}
 use Rattle.rust_ast.specs.SourcePatterns as p
 use Rattle.rust_printer.specs.ShownWords.{word_text, truth_text, number_text}
 use Rattle.rust_printer.specs.ShownTypes.{path_text}

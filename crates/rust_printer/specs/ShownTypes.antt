@@ -1,5 +1,5 @@
 -- How types and paths are printed.
-use Rattle.std.specs.Prelude.{ℕ, Bool, true, false, List, [], ◌∷◌, ◌++◌, codes}
+use Rattle.std.specs.Prelude.{ℕ, Bool, true, false, List, [], ◌++◌, codes}
 use Rattle.rust_ast.specs.SourceTypes as t
 use Rattle.rust_printer.specs.ShownWords.{int_word, word_text, mut_text}
 

@@ -1,5 +1,5 @@
 -- How single tokens are printed: each with a blank after it.
-use Rattle.std.specs.Prelude.{ℕ, Bool, true, false, List, [], ◌∷◌, ◌++◌, codes}
+use Rattle.std.specs.Prelude.{ℕ, Bool, true, false, List, [], ◌++◌, codes}
 use Rattle.std.specs.Fmt.{decimal}
 use Rattle.aen_base.specs.declared.int_ty.IntTy.{IntTy}
 use Rattle.aen_base.specs.declared.int_ty.IntTy.TheVariants as ints

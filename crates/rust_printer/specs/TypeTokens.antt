@@ -1,5 +1,5 @@
 -- The tokens of types and paths.
-use Rattle.std.specs.Prelude.{Bool, true, false, List, [], ◌∷◌, ◌++◌, codes}
+use Rattle.std.specs.Prelude.{Bool, true, false, List, ◌∷◌, codes}
 use Rattle.rust_ast.specs.SourceTypes as t
 use Rattle.source_grammar.specs.declared.class.Class.TheVariants as C
 use Rattle.rust_printer.specs.Tok.{Tok, mark, named, lifetime, int}

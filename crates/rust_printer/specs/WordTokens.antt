@@ -1,13 +1,10 @@
 -- The tokens of words and marks. Each of these functions takes the tokens that come after.
-use Rattle.std.specs.Prelude.{ℕ, Bool, true, false, List, [], ◌∷◌, ◌++◌, Option, Some, None, if◌then◌else◌, codes, drop}
-use Rattle.std.specs.Fmt.{decimal}
-use Rattle.aen_base.specs.declared.int_ty.IntTy.{IntTy}
+use Rattle.std.specs.Prelude.{ℕ, Bool, true, false, List, ◌∷◌}
 use Rattle.aen_base.specs.declared.operators.BinOp.{BinOp}
 use Rattle.aen_base.specs.declared.operators.BinOp.TheVariants as bin
 use Rattle.aen_base.specs.declared.operators.CmpOp.{CmpOp}
 use Rattle.aen_base.specs.declared.operators.CmpOp.TheVariants as cmp
 use Rattle.rust_ast.specs.Patterns as suffixes
-use Rattle.source_grammar.specs.declared.class.Class.{Class}
 use Rattle.source_grammar.specs.declared.class.Class.TheVariants as C
 use Rattle.rust_printer.specs.Tok.{Tok, mark, number}
 
