@@ -1,0 +1,12 @@
+pub mod ShownWords
+pub mod ShownTypes
+pub mod ShownPatterns
+pub mod Forms
+pub mod ShownExpressions
+pub mod Shown
+pub mod Tok
+pub mod WordTokens
+pub mod TypeTokens
+pub mod PatternTokens
+pub mod ExpressionTokens
+pub mod Tokens
