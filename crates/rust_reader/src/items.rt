@@ -5,7 +5,7 @@ ghost use Rattle.rust_reader.specs.Items as spec;
 
 use crate::front_list::FrontList;
 use crate::generics::Generics;
-use crate::says::{ident, lifetime_ident};
+use crate::says::ident;
 use crate::spanned::Spanned;
 use aen_base::{List, Name, NoMem, Span};
 use rust_ast::Ident;
@@ -107,7 +107,7 @@ pub(crate) fn first_lifetime(
 ) -> Result<Generics, NoMem>
     ensures { IfOk result (λ it. it ≡ spec.first_lifetime whole life more) }
 {
-    let life = lifetime_ident(alloc, life)?;
+    let life = ident(alloc, life)?;
     let Generics {
         lifetimes,
         type_params,
