@@ -338,19 +338,6 @@ pub(crate) fn while_expression(
     forever(alloc, whole, true, body)
 }
 
-/// `assert!(e)` is `if e {} else { panic!() }`.
-pub(crate) fn asserted(alloc: Global, whole: Span, e: Expr) -> Result<Expr, NoMem>
-    ensures { IfOk result (λ it. it ≡ spec.asserted whole e) }
-{
-    let empty = no_block(alloc, whole)?;
-    let panic = Expr {
-        node: ExprNode::Panic(whole),
-    };
-    let other = only_value(alloc, whole, panic)?;
-    let other = inner(alloc, other)?;
-    branch(alloc, whole, e, empty, other)
-}
-
 pub(crate) fn arm(
     whole: Span,
     pat: Spanned<Pat>,
