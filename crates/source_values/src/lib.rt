@@ -1,0 +1,8 @@
+//! The values of the parts of a source, and what its productions build of them.
+#![tactic(auto)]
+
+pub mod made;
+mod taking;
+mod value;
+
+pub use value::{Stack, Value};
