@@ -15,7 +15,8 @@ use rust_ast::source_types::Written;
 use source_grammar::Lexeme;
 use std::alloc::Global;
 
-pub(crate) fn first_item(
+/// An item before others. The only error is want of memory.
+pub fn first_item(
     whole: Span,
     item: Spanned<Item>,
     more: Spanned<FrontList<Item>>,
@@ -25,7 +26,8 @@ pub(crate) fn first_item(
     Ok(more.value.push(item.value)?)
 }
 
-pub(crate) fn function(
+/// `fn`. The only error is want of memory.
+pub fn function(
     alloc: Global,
     whole: Span,
     word: Lexeme,
@@ -53,7 +55,8 @@ pub(crate) fn function(
     }))
 }
 
-pub(crate) fn structure(
+/// `struct`. The only error is want of memory.
+pub fn structure(
     alloc: Global,
     whole: Span,
     word: Lexeme,
@@ -71,7 +74,8 @@ pub(crate) fn structure(
     }))
 }
 
-pub(crate) fn enumeration(
+/// `enum`. The only error is want of memory.
+pub fn enumeration(
     alloc: Global,
     whole: Span,
     word: Lexeme,
@@ -90,7 +94,8 @@ pub(crate) fn enumeration(
     }))
 }
 
-pub(crate) fn no_generics(alloc: Global) -> Generics
+/// No lifetimes and no type parameters.
+pub fn no_generics(alloc: Global) -> Generics
     ensures { result ≡ spec.no_generics }
 {
     Generics {
@@ -99,7 +104,8 @@ pub(crate) fn no_generics(alloc: Global) -> Generics
     }
 }
 
-pub(crate) fn first_lifetime(
+/// A lifetime before others and before type parameters. The only error is want of memory.
+pub fn first_lifetime(
     alloc: Global,
     whole: Span,
     life: Lexeme,
@@ -118,7 +124,8 @@ pub(crate) fn first_lifetime(
     })
 }
 
-pub(crate) fn first_type_parameter(
+/// A type parameter before others. The only error is want of memory.
+pub fn first_type_parameter(
     alloc: Global,
     whole: Span,
     name: Lexeme,
@@ -133,7 +140,8 @@ pub(crate) fn first_type_parameter(
     })
 }
 
-pub(crate) fn parameter(
+/// A parameter of a function, and whether `mut` stands before it. The only error is want of memory.
+pub fn parameter(
     alloc: Global,
     mutable: bool,
     name: Lexeme,
@@ -159,7 +167,8 @@ fn fields_in_braces(alloc: Global, fields: List<(Span, Name, Written)>) -> Field
     Fields::Named(fields)
 }
 
-pub(crate) fn braces(
+/// Fields with names in braces; without fields all forms are one thing.
+pub fn braces(
     alloc: Global,
     whole: Span,
     brace: Lexeme,
@@ -170,7 +179,8 @@ pub(crate) fn braces(
     fields_in_braces(alloc, fields.value.into_list())
 }
 
-pub(crate) fn brackets(
+/// Fields by place.
+pub fn brackets(
     whole: Span,
     bracket: Lexeme,
     types: Spanned<FrontList<Written>>,
@@ -181,7 +191,8 @@ pub(crate) fn brackets(
     Fields::Placed(types.value.into_list())
 }
 
-pub(crate) fn field(
+/// A field with a name. The only error is want of memory.
+pub fn field(
     alloc: Global,
     name: Lexeme,
     ty: Spanned<Written>,
@@ -192,7 +203,8 @@ pub(crate) fn field(
     Ok((name.span, name.name, ty.value))
 }
 
-pub(crate) fn variant(
+/// A variant with its fields. The only error is want of memory.
+pub fn variant(
     alloc: Global,
     whole: Span,
     name: Lexeme,
@@ -207,13 +219,15 @@ pub(crate) fn variant(
     })
 }
 
-pub(crate) fn no_fields(alloc: Global) -> Fields
+/// A struct without fields.
+pub fn no_fields(alloc: Global) -> Fields
     ensures { result ≡ spec.no_fields }
 {
     Fields::Placed(List::new(alloc))
 }
 
-pub(crate) fn use_mem() -> Item
+/// `use std::mem;`.
+pub fn use_mem() -> Item
     ensures { result ≡ spec.use_mem }
 {
     Item::UseMem

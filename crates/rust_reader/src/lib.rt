@@ -2,20 +2,20 @@
 #![tactic(auto)]
 
 mod assertion;
-mod blocks;
+pub mod blocks;
 pub mod clauses;
 pub mod constructors;
-mod expressions;
+pub mod expressions;
 pub mod front_list;
 pub mod generics;
-mod items;
+pub mod items;
 pub mod operations;
-mod operators;
+pub mod operators;
 mod path_nodes;
-mod path_ways;
+pub mod path_ways;
 pub mod paths;
-mod patterns;
-mod says;
+pub mod patterns;
+pub mod says;
 pub mod spanned;
-mod spans;
-mod types;
+pub mod spans;
+pub mod types;

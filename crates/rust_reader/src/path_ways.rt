@@ -74,19 +74,16 @@ fn begun_by(alloc: Global, whole: Span, name: Ident, after: After) -> Result<Exp
     }
 }
 
-pub(crate) fn named(
-    alloc: Global,
-    whole: Span,
-    name: Lexeme,
-    rest: Spanned<After>,
-) -> Result<Expr, NoMem>
+/// An expression that begins with this name. The only error is want of memory.
+pub fn named(alloc: Global, whole: Span, name: Lexeme, rest: Spanned<After>) -> Result<Expr, NoMem>
     ensures { IfOk result (λ it. it ≡ spec.named whole name rest) }
 {
     let name = ident(alloc, name)?;
     Ok(begun_by(alloc, whole, name, rest.value)?)
 }
 
-pub(crate) fn box_new(
+/// `Box::new`, called or not.
+pub fn box_new(
     whole: Span,
     word: Lexeme,
     colons: Lexeme,
@@ -98,13 +95,15 @@ pub(crate) fn box_new(
     called(whole, path_nodes::box_new(word.span, new.span), rest.value)
 }
 
-pub(crate) fn applied(whole: Span, more: Spanned<Further>) -> After
+/// A name that is applied without types.
+pub fn applied(whole: Span, more: Spanned<Further>) -> After
     ensures { result ≡ spec.applied whole more }
 {
     After::More(no_turbo(), more.value)
 }
 
-pub(crate) fn asserts(
+/// What makes a name `assert!` of a condition.
+pub fn asserts(
     whole: Span,
     mark: Lexeme,
     bracket: Lexeme,
@@ -116,13 +115,15 @@ pub(crate) fn asserts(
     After::Asserts(condition.value)
 }
 
-pub(crate) fn arguments(whole: Span, bracket: Lexeme, exprs: Spanned<FrontList<Expr>>) -> Further
+/// Arguments in round brackets.
+pub fn arguments(whole: Span, bracket: Lexeme, exprs: Spanned<FrontList<Expr>>) -> Further
     ensures { result ≡ spec.arguments whole bracket exprs }
 {
     Further::Arguments(exprs.value)
 }
 
-pub(crate) fn fields(
+/// Fields in braces.
+pub fn fields(
     whole: Span,
     brace: Lexeme,
     initials: Spanned<FrontList<(Span, Name, Expr)>>,
@@ -132,7 +133,8 @@ pub(crate) fn fields(
     Further::Fields(initials.value)
 }
 
-pub(crate) fn with_types(
+/// A name's types, and what it is applied to or a second name.
+pub fn with_types(
     whole: Span,
     less: Lexeme,
     types: Spanned<FrontList<Written>>,
@@ -143,7 +145,8 @@ pub(crate) fn with_types(
     After::More(turbo(types.value), more.value)
 }
 
-pub(crate) fn second_name(
+/// A second name directly after the first. The only error is want of memory.
+pub fn second_name(
     alloc: Global,
     whole: Span,
     name: Lexeme,
@@ -155,7 +158,8 @@ pub(crate) fn second_name(
     Ok(After::More(no_turbo(), Further::Second(name, rest.value)))
 }
 
-pub(crate) fn later_name(
+/// A second name after the first one's types. The only error is want of memory.
+pub fn later_name(
     alloc: Global,
     whole: Span,
     colons: Lexeme,
@@ -168,7 +172,8 @@ pub(crate) fn later_name(
     Ok(Further::Second(name, rest.value))
 }
 
-pub(crate) fn built_in_name(whole: Span, word: Lexeme, rest: Spanned<Calling>) -> After
+/// `replace` or `swap` after `mem`.
+pub fn built_in_name(whole: Span, word: Lexeme, rest: Spanned<Calling>) -> After
     ensures { result ≡ spec.built_in_name whole word rest }
 {
     After::BuiltIn(word.class, word.span, rest.value)
@@ -187,7 +192,8 @@ fn in_std(alloc: Global, mem: Lexeme, rest: InMem) -> Result<After, NoMem>
     }
 }
 
-pub(crate) fn std_mem(
+/// `mem` after `std`. The only error is want of memory.
+pub fn std_mem(
     alloc: Global,
     whole: Span,
     mem: Lexeme,
@@ -198,13 +204,15 @@ pub(crate) fn std_mem(
     Ok(in_std(alloc, mem, rest.value)?)
 }
 
-pub(crate) fn plain_call(bracket: Lexeme, exprs: Spanned<FrontList<Expr>>) -> Calling
+/// A call without types.
+pub fn plain_call(bracket: Lexeme, exprs: Spanned<FrontList<Expr>>) -> Calling
     ensures { result ≡ spec.plain_call bracket exprs }
 {
     Calling::Arguments(no_turbo(), exprs.value)
 }
 
-pub(crate) fn call_with_types(
+/// A call with types.
+pub fn call_with_types(
     types: Spanned<FrontList<Written>>,
     exprs: Spanned<FrontList<Expr>>,
 ) -> Calling
@@ -213,25 +221,29 @@ pub(crate) fn call_with_types(
     Calling::Arguments(turbo(types.value), exprs.value)
 }
 
-pub(crate) fn std_built_in(whole: Span, word: Lexeme, rest: Spanned<Calling>) -> InMem
+/// `replace` or `swap` after `std::mem`.
+pub fn std_built_in(whole: Span, word: Lexeme, rest: Spanned<Calling>) -> InMem
     ensures { result ≡ spec.std_built_in whole word rest }
 {
     InMem::BuiltIn(word.class, word.span, rest.value)
 }
 
-pub(crate) fn alone() -> After
+/// Nothing after a name.
+pub fn alone() -> After
     ensures { result ≡ spec.alone }
 {
     After::Nothing
 }
 
-pub(crate) fn panics() -> After
+/// What makes a name `panic!`.
+pub fn panics() -> After
     ensures { result ≡ spec.panics }
 {
     After::Panics
 }
 
-pub(crate) fn not_called() -> Calling
+/// Nothing after a path.
+pub fn not_called() -> Calling
     ensures { result ≡ spec.not_called }
 {
     Calling::Nothing

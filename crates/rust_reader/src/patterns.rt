@@ -15,12 +15,8 @@ use rust_ast::source_types::{Path, Written};
 use source_grammar::Lexeme;
 use std::alloc::Global;
 
-pub(crate) fn binding(
-    alloc: Global,
-    whole: Span,
-    mutable: Lexeme,
-    name: Lexeme,
-) -> Result<Pat, NoMem>
+/// A name with `mut`. The only error is want of memory.
+pub fn binding(alloc: Global, whole: Span, mutable: Lexeme, name: Lexeme) -> Result<Pat, NoMem>
     ensures { IfOk result (λ it. it ≡ spec.binding whole mutable name) }
 {
     let name = ident(alloc, name)?;
@@ -39,19 +35,22 @@ fn number_of(whole: Span, negative: bool, number: (u128, Option<IntTy>)) -> Pat
     }
 }
 
-pub(crate) fn negative_pattern(whole: Span, minus: Lexeme, number: Lexeme) -> Pat
+/// An integer with `-` before it.
+pub fn negative_pattern(whole: Span, minus: Lexeme, number: Lexeme) -> Pat
     ensures { result ≡ spec.negative_pattern whole minus number }
 {
     number_of(whole, true, number_in(number.content))
 }
 
-pub(crate) fn number_pattern(whole: Span, number: Lexeme) -> Pat
+/// An integer.
+pub fn number_pattern(whole: Span, number: Lexeme) -> Pat
     ensures { result ≡ spec.number_pattern whole number }
 {
     number_of(whole, false, number_in(number.content))
 }
 
-pub(crate) fn truth_pattern(whole: Span, word: Lexeme) -> Pat
+/// `true` or `false`.
+pub fn truth_pattern(whole: Span, word: Lexeme) -> Pat
     ensures { result ≡ spec.truth_pattern whole word }
 {
     Pat {
@@ -74,7 +73,8 @@ fn enclosed_pattern(whole: Span, pats: List<Pat>) -> Pat
     }
 }
 
-pub(crate) fn bracketed_pattern(whole: Span, bracket: Lexeme, pats: Spanned<FrontList<Pat>>) -> Pat
+/// Patterns in brackets: one is that pattern, else they are a tuple.
+pub fn bracketed_pattern(whole: Span, bracket: Lexeme, pats: Spanned<FrontList<Pat>>) -> Pat
     ensures { result ≡ spec.bracketed_pattern whole bracket pats }
 {
     enclosed_pattern(whole, pats.value.into_list())
@@ -120,7 +120,8 @@ fn begun_by(whole: Span, name: Ident, after: AfterName) -> Pat
     }
 }
 
-pub(crate) fn named_pattern(
+/// A pattern that begins with this name. The only error is want of memory.
+pub fn named_pattern(
     alloc: Global,
     whole: Span,
     name: Lexeme,
@@ -132,7 +133,8 @@ pub(crate) fn named_pattern(
     Ok(begun_by(whole, name, rest.value))
 }
 
-pub(crate) fn box_new_pattern(
+/// `Box::new` with its parts.
+pub fn box_new_pattern(
     whole: Span,
     word: Lexeme,
     colons: Lexeme,
@@ -155,7 +157,8 @@ fn field_of(alloc: Global, name: Ident, pat: Option<Pat>) -> Result<FieldPat, No
     Ok(FieldPat { node })
 }
 
-pub(crate) fn field_pattern(
+/// A field, with its pattern if one is written. The only error is want of memory.
+pub fn field_pattern(
     alloc: Global,
     whole: Span,
     name: Lexeme,
@@ -167,7 +170,8 @@ pub(crate) fn field_pattern(
     Ok(field_of(alloc, name, pat.value)?)
 }
 
-pub(crate) fn second_after_types(
+/// A second name after the first one's types. The only error is want of memory.
+pub fn second_after_types(
     alloc: Global,
     whole: Span,
     less: Lexeme,
@@ -182,7 +186,8 @@ pub(crate) fn second_after_types(
     Ok(AfterName::Second(turbo(types.value), name, parts.value))
 }
 
-pub(crate) fn second_name(
+/// A second name directly after the first. The only error is want of memory.
+pub fn second_name(
     alloc: Global,
     whole: Span,
     name: Lexeme,
@@ -194,7 +199,8 @@ pub(crate) fn second_name(
     Ok(AfterName::Second(no_turbo(), name, parts.value))
 }
 
-pub(crate) fn built_in_name(whole: Span, word: Lexeme, parts: Spanned<Given>) -> AfterName
+/// `replace` or `swap` after `mem`.
+pub fn built_in_name(whole: Span, word: Lexeme, parts: Spanned<Given>) -> AfterName
     ensures { result ≡ spec.built_in_name whole word parts }
 {
     AfterName::BuiltIn(word.class, word.span, parts.value)
@@ -215,7 +221,8 @@ fn in_std(alloc: Global, mem: Lexeme, rest: AfterMem) -> Result<AfterName, NoMem
     }
 }
 
-pub(crate) fn std_mem_name(
+/// `mem` after `std`. The only error is want of memory.
+pub fn std_mem_name(
     alloc: Global,
     whole: Span,
     mem: Lexeme,
@@ -226,7 +233,8 @@ pub(crate) fn std_mem_name(
     Ok(in_std(alloc, mem, rest.value)?)
 }
 
-pub(crate) fn std_built_in_name(
+/// `replace` or `swap` after `std::mem`.
+pub fn std_built_in_name(
     whole: Span,
     colons: Lexeme,
     word: Lexeme,

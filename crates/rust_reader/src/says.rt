@@ -10,7 +10,7 @@ use source_grammar::{Class, Content, Lexeme};
 use std::alloc::Global;
 
 /// Whether two classes are the same.
-pub(crate) fn is_class(class: Class, other: Class) -> bool
+pub fn is_class(class: Class, other: Class) -> bool
     ensures { result ≡ spec.is_class class other }
 {
     class == other
@@ -31,7 +31,7 @@ fn name_in(alloc: Global, content: Content) -> Result<Name, NoMem>
 }
 
 /// An integer's value and suffix.
-pub(crate) fn number_in(content: Content) -> (u128, Option<IntTy>)
+pub fn number_in(content: Content) -> (u128, Option<IntTy>)
     ensures { result ≡ spec.number_in content }
 {
     match content {
@@ -41,7 +41,7 @@ pub(crate) fn number_in(content: Content) -> (u128, Option<IntTy>)
 }
 
 /// The type that a word is.
-pub(crate) fn int_type_in(content: Content) -> IntTy
+pub fn int_type_in(content: Content) -> IntTy
     ensures { result ≡ spec.int_type_in content }
 {
     match content {
@@ -56,7 +56,7 @@ pub(crate) fn int_type_in(content: Content) -> IntTy
 }
 
 /// An identifier or a lifetime where it stands. The only error is want of memory.
-pub(crate) fn ident(alloc: Global, lexeme: Lexeme) -> Result<Ident, NoMem>
+pub fn ident(alloc: Global, lexeme: Lexeme) -> Result<Ident, NoMem>
     ensures { IfOk result (λ it. it ≡ spec.ident lexeme) }
 {
     let span = lexeme.span;
@@ -65,7 +65,7 @@ pub(crate) fn ident(alloc: Global, lexeme: Lexeme) -> Result<Ident, NoMem>
 }
 
 /// The lifetime of a reference. The only error is want of memory.
-pub(crate) fn lifetime(alloc: Global, lexeme: Lexeme) -> Result<Lifetime, NoMem>
+pub fn lifetime(alloc: Global, lexeme: Lexeme) -> Result<Lifetime, NoMem>
     ensures { IfOk result (λ it. it ≡ spec.lifetime lexeme) }
 {
     let node = if is_class(lexeme.class, Class::Elided) {
@@ -77,7 +77,7 @@ pub(crate) fn lifetime(alloc: Global, lexeme: Lexeme) -> Result<Lifetime, NoMem>
 }
 
 /// Which of `true` and `false` a word is.
-pub(crate) fn truth(lexeme: Lexeme) -> bool
+pub fn truth(lexeme: Lexeme) -> bool
     ensures { result ≡ spec.truth lexeme }
 {
     is_class(lexeme.class, Class::True)

@@ -11,7 +11,8 @@ use rust_ast::source_types::{Lifetime, Written, WrittenNode};
 use source_grammar::Lexeme;
 use std::alloc::Global;
 
-pub(crate) fn int_type(whole: Span, word: Lexeme) -> Written
+/// A word for an integer type.
+pub fn int_type(whole: Span, word: Lexeme) -> Written
     ensures { result ≡ spec.int_type whole word }
 {
     Written {
@@ -39,17 +40,15 @@ fn enclosed_type(whole: Span, types: List<Written>) -> Written
     }
 }
 
-pub(crate) fn bracketed_type(
-    whole: Span,
-    bracket: Lexeme,
-    types: Spanned<FrontList<Written>>,
-) -> Written
+/// Types in brackets: none is unit, one is that type, more are a tuple.
+pub fn bracketed_type(whole: Span, bracket: Lexeme, types: Spanned<FrontList<Written>>) -> Written
     ensures { result ≡ spec.bracketed_type whole bracket types }
 {
     enclosed_type(whole, types.value.into_list())
 }
 
-pub(crate) fn reference_type(
+/// A reference type. The only error is want of memory.
+pub fn reference_type(
     alloc: Global,
     whole: Span,
     mark: Lexeme,
@@ -65,7 +64,8 @@ pub(crate) fn reference_type(
     })
 }
 
-pub(crate) fn boxed_type(
+/// A `Box` of a type. The only error is want of memory.
+pub fn boxed_type(
     alloc: Global,
     whole: Span,
     word: Lexeme,
@@ -81,7 +81,8 @@ pub(crate) fn boxed_type(
     })
 }
 
-pub(crate) fn named_type(
+/// A declared type or a type parameter, with its arguments. The only error is want of memory.
+pub fn named_type(
     alloc: Global,
     whole: Span,
     name: Lexeme,
