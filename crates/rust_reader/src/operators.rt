@@ -94,7 +94,8 @@ fn to_the_left(
     Ok(e)
 }
 
-pub(crate) fn grouped(
+/// An expression and the operators of one level after it. The only error is want of memory.
+pub fn grouped(
     alloc: Global,
     whole: Span,
     e: Spanned<Expr>,
@@ -115,7 +116,8 @@ fn operation(mark: Lexeme, e: Spanned<Expr>) -> Operation
     }
 }
 
-pub(crate) fn one_operation(
+/// One operator with what stands to its right. The only error is want of memory.
+pub fn one_operation(
     alloc: Global,
     whole: Span,
     mark: Lexeme,
@@ -126,7 +128,8 @@ pub(crate) fn one_operation(
     FrontList::new(alloc).push(operation(mark, e))
 }
 
-pub(crate) fn next_operation(
+/// An operator with what stands to its right, and those after it. The only error is want of memory.
+pub fn next_operation(
     whole: Span,
     mark: Lexeme,
     e: Spanned<Expr>,
@@ -157,7 +160,8 @@ fn cast_to(
     Ok(e)
 }
 
-pub(crate) fn casts(
+/// An expression and the types that it is cast to. The only error is want of memory.
+pub fn casts(
     alloc: Global,
     whole: Span,
     e: Spanned<Expr>,
@@ -168,7 +172,8 @@ pub(crate) fn casts(
     cast_to(alloc, whole.lo, e.value, more.value)
 }
 
-pub(crate) fn one_cast(
+/// A type after `as`, and those after it. The only error is want of memory.
+pub fn one_cast(
     whole: Span,
     word: Lexeme,
     ty: Lexeme,
@@ -195,7 +200,8 @@ fn fields_of(alloc: Global, lo: u32, first: Expr, fields: FrontList<Ident>) -> R
     Ok(e)
 }
 
-pub(crate) fn with_fields(
+/// An expression and its fields. The only error is want of memory.
+pub fn with_fields(
     alloc: Global,
     whole: Span,
     e: Spanned<Expr>,
@@ -236,7 +242,8 @@ fn negated(alloc: Global, whole: Span, operand: Span, e: Expr) -> Result<Expr, N
     }
 }
 
-pub(crate) fn minus(
+/// `-` and its operand. The only error is want of memory.
+pub fn minus(
     alloc: Global,
     whole: Span,
     mark: Lexeme,
@@ -247,7 +254,8 @@ pub(crate) fn minus(
     negated(alloc, whole, span_of(e.extent), e.value)
 }
 
-pub(crate) fn negation(
+/// `!` and its operand. The only error is want of memory.
+pub fn negation(
     alloc: Global,
     whole: Span,
     mark: Lexeme,
@@ -261,7 +269,8 @@ pub(crate) fn negation(
     })
 }
 
-pub(crate) fn dereference(
+/// `*` and its operand. The only error is want of memory.
+pub fn dereference(
     alloc: Global,
     whole: Span,
     mark: Lexeme,
@@ -275,7 +284,8 @@ pub(crate) fn dereference(
     })
 }
 
-pub(crate) fn borrow(
+/// `&` and what stands after it. The only error is want of memory.
+pub fn borrow(
     alloc: Global,
     whole: Span,
     mark: Lexeme,
@@ -290,7 +300,8 @@ pub(crate) fn borrow(
     })
 }
 
-pub(crate) fn borrowed(mutable: bool, e: Spanned<Expr>) -> Borrowed
+/// What stands after `&`, with `mut` where true.
+pub fn borrowed(mutable: bool, e: Spanned<Expr>) -> Borrowed
     ensures { result ≡ spec.borrowed mutable e }
 {
     Borrowed {
