@@ -15,43 +15,56 @@ use Rattle.source_grammar.specs.Productions.{operand, leading}
 use Rattle.rust_ast.specs.declared.ident.Ident.{Ident}
 use Rattle.rust_ast.specs.Source as s
 use Rattle.rust_reader.specs.declared.operations.Operation.{Operation}
+use Rattle.rust_reader.specs.declared.operations.Join.{Join}
+use Rattle.rust_reader.specs.declared.operations.Join.TheVariants as by
 use Rattle.rust_reader.specs.declared.operations.Borrowed.{Borrowed}
 use Rattle.rust_reader.specs.declared.spanned.Spanned.{Spanned}
 use Rattle.rust_reader.specs.Spans.{from_to, span_of, same_span}
 use Rattle.rust_reader.specs.Says.{int_type_in}
 use Rattle.rust_reader.specs.Carriers.{Carried}
 
--- the node of an operator; what is none of these is `=`
+-- what the mark of an operator asks for; what is none of these is `=`
+abbrev pub join_of : Class → Join
+join_of C.BarBar = by.Either
+join_of C.AndAnd = by.Both
+join_of C.EqualsEquals = by.Compare cmp.Eq
+join_of C.NotEquals = by.Compare cmp.Ne
+join_of C.Less = by.Compare cmp.Lt
+join_of C.LessEquals = by.Compare cmp.Le
+join_of C.Greater = by.Compare cmp.Gt
+join_of C.GreaterEquals = by.Compare cmp.Ge
+join_of C.Bar = by.Binary bin.Or
+join_of C.Caret = by.Binary bin.Xor
+join_of C.And = by.Binary bin.And
+join_of C.Shl = by.Binary bin.Shl
+join_of C.Shr = by.Binary bin.Shr
+join_of C.Plus = by.Binary bin.Add
+join_of C.Minus = by.Binary bin.Sub
+join_of C.Star = by.Binary bin.Mul
+join_of C.Slash = by.Binary bin.Div
+join_of C.Percent = by.Binary bin.Rem
+join_of C.PlusEquals = by.Update bin.Add
+join_of C.MinusEquals = by.Update bin.Sub
+join_of C.StarEquals = by.Update bin.Mul
+join_of C.SlashEquals = by.Update bin.Div
+join_of C.PercentEquals = by.Update bin.Rem
+join_of C.AndEquals = by.Update bin.And
+join_of C.BarEquals = by.Update bin.Or
+join_of C.CaretEquals = by.Update bin.Xor
+join_of C.ShlEquals = by.Update bin.Shl
+join_of C.ShrEquals = by.Update bin.Shr
+join_of class = by.Assign
+
+abbrev pub joined_by : Join → Span → s.Expr → s.Expr → s.Expr
+joined_by by.Either span a b = s.either span a b
+joined_by by.Both span a b = s.both span a b
+joined_by (by.Compare op) span a b = s.compare span op a b
+joined_by (by.Binary op) span a b = s.binary span op a b
+joined_by (by.Update op) span a b = s.update span op a b
+joined_by by.Assign span a b = s.assign span a b
+
 abbrev pub joined : Class → Span → s.Expr → s.Expr → s.Expr
-joined C.BarBar span a b = s.either span a b
-joined C.AndAnd span a b = s.both span a b
-joined C.EqualsEquals span a b = s.compare span cmp.Eq a b
-joined C.NotEquals span a b = s.compare span cmp.Ne a b
-joined C.Less span a b = s.compare span cmp.Lt a b
-joined C.LessEquals span a b = s.compare span cmp.Le a b
-joined C.Greater span a b = s.compare span cmp.Gt a b
-joined C.GreaterEquals span a b = s.compare span cmp.Ge a b
-joined C.Bar span a b = s.binary span bin.Or a b
-joined C.Caret span a b = s.binary span bin.Xor a b
-joined C.And span a b = s.binary span bin.And a b
-joined C.Shl span a b = s.binary span bin.Shl a b
-joined C.Shr span a b = s.binary span bin.Shr a b
-joined C.Plus span a b = s.binary span bin.Add a b
-joined C.Minus span a b = s.binary span bin.Sub a b
-joined C.Star span a b = s.binary span bin.Mul a b
-joined C.Slash span a b = s.binary span bin.Div a b
-joined C.Percent span a b = s.binary span bin.Rem a b
-joined C.PlusEquals span a b = s.update span bin.Add a b
-joined C.MinusEquals span a b = s.update span bin.Sub a b
-joined C.StarEquals span a b = s.update span bin.Mul a b
-joined C.SlashEquals span a b = s.update span bin.Div a b
-joined C.PercentEquals span a b = s.update span bin.Rem a b
-joined C.AndEquals span a b = s.update span bin.And a b
-joined C.BarEquals span a b = s.update span bin.Or a b
-joined C.CaretEquals span a b = s.update span bin.Xor a b
-joined C.ShlEquals span a b = s.update span bin.Shl a b
-joined C.ShrEquals span a b = s.update span bin.Shr a b
-joined class span a b = s.assign span a b
+joined operator span a b = joined_by (join_of operator) span a b
 
 -- from the left, all from byte lo on
 abbrev pub to_the_left : ℕ → s.Expr → List Operation → s.Expr

@@ -58,7 +58,8 @@ fn inner(alloc: Global, block: Block) -> Result<Expr, NoMem>
     })
 }
 
-pub(crate) fn block(
+/// A block, from its first brace on. The only error is want of memory.
+pub fn block(
     alloc: Global,
     whole: Span,
     brace: Lexeme,
@@ -69,7 +70,8 @@ pub(crate) fn block(
     block_of(alloc, whole, body.value)
 }
 
-pub(crate) fn ended(alloc: Global, whole: Span, brace: Lexeme) -> Body
+/// What is left of a block at its last brace.
+pub fn ended(alloc: Global, whole: Span, brace: Lexeme) -> Body
     ensures { result ≡ spec.ended whole brace }
 {
     without_statements(alloc, None)
@@ -105,7 +107,8 @@ fn let_of(
     before(statement, rest.value)
 }
 
-pub(crate) fn let_statement(
+/// `let`, and what is left of the block after it. The only error is want of memory.
+pub fn let_statement(
     alloc: Global,
     whole: Span,
     word: Lexeme,
@@ -134,7 +137,8 @@ fn run(alloc: Global, e: Expr, semicolon: bool, rest: Option<Body>) -> Result<Bo
     before(statement, body)
 }
 
-pub(crate) fn block_like_first(
+/// A statement that is like a block, and what is left of the block after it. The only error is want of memory.
+pub fn block_like_first(
     alloc: Global,
     whole: Span,
     e: Spanned<Expr>,
@@ -145,7 +149,8 @@ pub(crate) fn block_like_first(
     run(alloc, e.value, false, rest.value)
 }
 
-pub(crate) fn expression_first(
+/// Another expression, and what is left of the block after it. The only error is want of memory.
+pub fn expression_first(
     alloc: Global,
     whole: Span,
     e: Spanned<Expr>,
@@ -156,13 +161,15 @@ pub(crate) fn expression_first(
     run(alloc, e.value, true, rest.value)
 }
 
-pub(crate) fn inner_block(alloc: Global, whole: Span, b: Spanned<Block>) -> Result<Expr, NoMem>
+/// A block as an expression. The only error is want of memory.
+pub fn inner_block(alloc: Global, whole: Span, b: Spanned<Block>) -> Result<Expr, NoMem>
     ensures { IfOk result (λ it. it ≡ spec.inner_block whole b) }
 {
     inner(alloc, b.value)
 }
 
-pub(crate) fn match_expression(
+/// `match`. The only error is want of memory.
+pub fn match_expression(
     alloc: Global,
     whole: Span,
     word: Lexeme,
@@ -188,7 +195,8 @@ fn forever(alloc: Global, whole: Span, by_while: bool, body: Block) -> Result<Ex
     })
 }
 
-pub(crate) fn loop_expression(
+/// `loop`. The only error is want of memory.
+pub fn loop_expression(
     alloc: Global,
     whole: Span,
     word: Lexeme,
@@ -199,7 +207,8 @@ pub(crate) fn loop_expression(
     forever(alloc, whole, false, body.value)
 }
 
-pub(crate) fn holds(e: Spanned<Expr>, body: Spanned<Block>, other: Option<Expr>) -> Conditional
+/// A condition, what is done where it holds, and perhaps what else.
+pub fn holds(e: Spanned<Expr>, body: Spanned<Block>, other: Option<Expr>) -> Conditional
     ensures { result ≡ spec.holds e body other }
 {
     Conditional {
@@ -209,7 +218,8 @@ pub(crate) fn holds(e: Spanned<Expr>, body: Spanned<Block>, other: Option<Expr>)
     }
 }
 
-pub(crate) fn matches(
+/// A pattern and what it is to match, what is done where it does, and perhaps what else.
+pub fn matches(
     pat: Spanned<Pat>,
     e: Spanned<Expr>,
     body: Spanned<Block>,
@@ -285,7 +295,8 @@ fn otherwise(alloc: Global, whole: Span, other: Option<Expr>) -> Result<Expr, No
     }
 }
 
-pub(crate) fn if_expression(
+/// `if` and `if let`. The only error is want of memory.
+pub fn if_expression(
     alloc: Global,
     whole: Span,
     word: Lexeme,
@@ -318,8 +329,8 @@ fn leaving(alloc: Global, whole: Span, condition: &Condition) -> Result<Expr, No
     }
 }
 
-/// `while c B` is `loop { if c B else { break } }`, `while let p = e B` is `loop { match e { p => B, _ => break } }`.
-pub(crate) fn while_expression(
+/// `while` and `while let`: a loop that is left where the condition isn't met. The only error is want of memory.
+pub fn while_expression(
     alloc: Global,
     whole: Span,
     word: Lexeme,
@@ -330,7 +341,7 @@ pub(crate) fn while_expression(
     let Conditional {
         condition,
         body,
-        otherwise: _,
+        otherwise: _other,
     } = c.value;
     let leave = leaving(alloc, whole, &condition)?;
     let turn = choice(alloc, whole, condition, body, leave)?;
@@ -338,7 +349,8 @@ pub(crate) fn while_expression(
     forever(alloc, whole, true, body)
 }
 
-pub(crate) fn arm(
+/// An arm, and those after it. The only error is want of memory.
+pub fn arm(
     whole: Span,
     pat: Spanned<Pat>,
     mark: Lexeme,
@@ -350,7 +362,8 @@ pub(crate) fn arm(
     more.push((pat.value, body))
 }
 
-pub(crate) fn arm_body(
+/// The body of an arm, and the arms after it.
+pub fn arm_body(
     whole: Span,
     body: Spanned<Expr>,
     more: Spanned<FrontList<(Pat, Expr)>>,

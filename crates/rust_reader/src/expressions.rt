@@ -14,7 +14,7 @@ use source_grammar::Lexeme;
 use std::alloc::Global;
 
 /// Perhaps an expression, in a box. The only error is want of memory.
-pub(crate) fn boxed(alloc: Global, value: Option<Expr>) -> Result<Option<Boxed<Expr>>, NoMem>
+pub fn boxed(alloc: Global, value: Option<Expr>) -> Result<Option<Boxed<Expr>>, NoMem>
     ensures { IfOk result (λ it. it ≡ value) }
 {
     match value {
@@ -26,7 +26,8 @@ pub(crate) fn boxed(alloc: Global, value: Option<Expr>) -> Result<Option<Boxed<E
     }
 }
 
-pub(crate) fn returned(
+/// `return`, perhaps with a value. The only error is want of memory.
+pub fn returned(
     alloc: Global,
     whole: Span,
     word: Lexeme,
@@ -40,7 +41,8 @@ pub(crate) fn returned(
     })
 }
 
-pub(crate) fn broken(
+/// `break`, perhaps with a value. The only error is want of memory.
+pub fn broken(
     alloc: Global,
     whole: Span,
     word: Lexeme,
@@ -54,7 +56,8 @@ pub(crate) fn broken(
     })
 }
 
-pub(crate) fn returned_value(
+/// `return` with a value. The only error is want of memory.
+pub fn returned_value(
     alloc: Global,
     whole: Span,
     word: Lexeme,
@@ -68,7 +71,8 @@ pub(crate) fn returned_value(
     })
 }
 
-pub(crate) fn broken_value(
+/// `break` with a value. The only error is want of memory.
+pub fn broken_value(
     alloc: Global,
     whole: Span,
     word: Lexeme,
@@ -91,13 +95,15 @@ fn number_of(whole: Span, number: (u128, Option<IntTy>)) -> Expr
     }
 }
 
-pub(crate) fn number_expression(whole: Span, number: Lexeme) -> Expr
+/// An integer.
+pub fn number_expression(whole: Span, number: Lexeme) -> Expr
     ensures { result ≡ spec.number_expression whole number }
 {
     number_of(whole, number_in(number.content))
 }
 
-pub(crate) fn truth_expression(whole: Span, word: Lexeme) -> Expr
+/// `true` or `false`.
+pub fn truth_expression(whole: Span, word: Lexeme) -> Expr
     ensures { result ≡ spec.truth_expression whole word }
 {
     Expr {
@@ -120,7 +126,8 @@ fn enclosed(whole: Span, parts: List<Expr>) -> Expr
     }
 }
 
-pub(crate) fn bracketed(whole: Span, bracket: Lexeme, parts: Spanned<FrontList<Expr>>) -> Expr
+/// What stands in round brackets.
+pub fn bracketed(whole: Span, bracket: Lexeme, parts: Spanned<FrontList<Expr>>) -> Expr
     ensures { result ≡ spec.bracketed whole bracket parts }
 {
     enclosed(whole, parts.value.into_list())
@@ -157,7 +164,8 @@ fn value_of(alloc: Global, name: &Ident, value: Option<Expr>) -> Result<Expr, No
     }
 }
 
-pub(crate) fn initial(
+/// A field with its value in braces. The only error is want of memory.
+pub fn initial(
     alloc: Global,
     whole: Span,
     name: Lexeme,

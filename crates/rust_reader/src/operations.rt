@@ -1,3 +1,4 @@
+use aen_base::{BinOp, CmpOp};
 use rust_ast::source::Expr;
 use source_grammar::Class;
 
@@ -15,4 +16,21 @@ pub struct Operation {
 pub struct Borrowed {
     pub mutable: bool,
     pub operand: Expr,
+}
+
+/// How an operator joins two operands.
+#[derive(Clone, Copy)]
+pub enum Join {
+    /// `||`.
+    Either,
+    /// `&&`.
+    Both,
+    /// A comparison.
+    Compare(CmpOp),
+    /// An operator that gives a number.
+    Binary(BinOp),
+    /// The same with `=`.
+    Update(BinOp),
+    /// `=`.
+    Assign,
 }

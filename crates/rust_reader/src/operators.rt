@@ -6,7 +6,7 @@ ghost use Rattle.rust_ast.specs.SourceView.{expr_of};
 ghost use Rattle.rust_reader.specs.Operators as spec;
 
 use crate::front_list::FrontList;
-use crate::operations::{Borrowed, Operation};
+use crate::operations::{Borrowed, Join, Operation};
 use crate::says::int_type_in;
 use crate::spanned::Spanned;
 use crate::spans::{from_to, same_span, span_of};
@@ -16,40 +16,53 @@ use rust_ast::source::{Expr, ExprNode};
 use source_grammar::{Class, Lexeme};
 use std::alloc::Global;
 
-/// The node of an operator; what is none of these is `=`.
-fn joined_node(operator: Class, span: Span, a: Boxed<Expr>, b: Boxed<Expr>) -> ExprNode
-    ensures { expr_of result ≡ spec.joined operator span a b }
+/// What the mark of an operator asks for; what is none of these is `=`.
+fn join_of(operator: Class) -> Join
+    ensures { result ≡ spec.join_of operator }
 {
     match operator {
-        Class::BarBar => ExprNode::Either(span, a, b),
-        Class::AndAnd => ExprNode::Both(span, a, b),
-        Class::EqualsEquals => ExprNode::Compare(span, CmpOp::Eq, a, b),
-        Class::NotEquals => ExprNode::Compare(span, CmpOp::Ne, a, b),
-        Class::Less => ExprNode::Compare(span, CmpOp::Lt, a, b),
-        Class::LessEquals => ExprNode::Compare(span, CmpOp::Le, a, b),
-        Class::Greater => ExprNode::Compare(span, CmpOp::Gt, a, b),
-        Class::GreaterEquals => ExprNode::Compare(span, CmpOp::Ge, a, b),
-        Class::Bar => ExprNode::Binary(span, BinOp::Or, a, b),
-        Class::Caret => ExprNode::Binary(span, BinOp::Xor, a, b),
-        Class::And => ExprNode::Binary(span, BinOp::And, a, b),
-        Class::Shl => ExprNode::Binary(span, BinOp::Shl, a, b),
-        Class::Shr => ExprNode::Binary(span, BinOp::Shr, a, b),
-        Class::Plus => ExprNode::Binary(span, BinOp::Add, a, b),
-        Class::Minus => ExprNode::Binary(span, BinOp::Sub, a, b),
-        Class::Star => ExprNode::Binary(span, BinOp::Mul, a, b),
-        Class::Slash => ExprNode::Binary(span, BinOp::Div, a, b),
-        Class::Percent => ExprNode::Binary(span, BinOp::Rem, a, b),
-        Class::PlusEquals => ExprNode::Update(span, BinOp::Add, a, b),
-        Class::MinusEquals => ExprNode::Update(span, BinOp::Sub, a, b),
-        Class::StarEquals => ExprNode::Update(span, BinOp::Mul, a, b),
-        Class::SlashEquals => ExprNode::Update(span, BinOp::Div, a, b),
-        Class::PercentEquals => ExprNode::Update(span, BinOp::Rem, a, b),
-        Class::AndEquals => ExprNode::Update(span, BinOp::And, a, b),
-        Class::BarEquals => ExprNode::Update(span, BinOp::Or, a, b),
-        Class::CaretEquals => ExprNode::Update(span, BinOp::Xor, a, b),
-        Class::ShlEquals => ExprNode::Update(span, BinOp::Shl, a, b),
-        Class::ShrEquals => ExprNode::Update(span, BinOp::Shr, a, b),
-        _ => ExprNode::Assign(span, a, b),
+        Class::BarBar => Join::Either,
+        Class::AndAnd => Join::Both,
+        Class::EqualsEquals => Join::Compare(CmpOp::Eq),
+        Class::NotEquals => Join::Compare(CmpOp::Ne),
+        Class::Less => Join::Compare(CmpOp::Lt),
+        Class::LessEquals => Join::Compare(CmpOp::Le),
+        Class::Greater => Join::Compare(CmpOp::Gt),
+        Class::GreaterEquals => Join::Compare(CmpOp::Ge),
+        Class::Bar => Join::Binary(BinOp::Or),
+        Class::Caret => Join::Binary(BinOp::Xor),
+        Class::And => Join::Binary(BinOp::And),
+        Class::Shl => Join::Binary(BinOp::Shl),
+        Class::Shr => Join::Binary(BinOp::Shr),
+        Class::Plus => Join::Binary(BinOp::Add),
+        Class::Minus => Join::Binary(BinOp::Sub),
+        Class::Star => Join::Binary(BinOp::Mul),
+        Class::Slash => Join::Binary(BinOp::Div),
+        Class::Percent => Join::Binary(BinOp::Rem),
+        Class::PlusEquals => Join::Update(BinOp::Add),
+        Class::MinusEquals => Join::Update(BinOp::Sub),
+        Class::StarEquals => Join::Update(BinOp::Mul),
+        Class::SlashEquals => Join::Update(BinOp::Div),
+        Class::PercentEquals => Join::Update(BinOp::Rem),
+        Class::AndEquals => Join::Update(BinOp::And),
+        Class::BarEquals => Join::Update(BinOp::Or),
+        Class::CaretEquals => Join::Update(BinOp::Xor),
+        Class::ShlEquals => Join::Update(BinOp::Shl),
+        Class::ShrEquals => Join::Update(BinOp::Shr),
+        _ => Join::Assign,
+    }
+}
+
+fn joined_by(by: Join, span: Span, a: Boxed<Expr>, b: Boxed<Expr>) -> ExprNode
+    ensures { expr_of result ≡ spec.joined_by by span a b }
+{
+    match by {
+        Join::Either => ExprNode::Either(span, a, b),
+        Join::Both => ExprNode::Both(span, a, b),
+        Join::Compare(op) => ExprNode::Compare(span, op, a, b),
+        Join::Binary(op) => ExprNode::Binary(span, op, a, b),
+        Join::Update(op) => ExprNode::Update(span, op, a, b),
+        Join::Assign => ExprNode::Assign(span, a, b),
     }
 }
 
@@ -59,7 +72,7 @@ fn joined(alloc: Global, operator: Class, span: Span, a: Expr, b: Expr) -> Resul
     let a = Boxed::new(alloc, a)?;
     let b = Boxed::new(alloc, b)?;
     Ok(Expr {
-        node: joined_node(operator, span, a, b),
+        node: joined_by(join_of(operator), span, a, b),
     })
 }
 
@@ -81,7 +94,8 @@ fn to_the_left(
     Ok(e)
 }
 
-pub(crate) fn grouped(
+/// An expression and the operators of one level after it. The only error is want of memory.
+pub fn grouped(
     alloc: Global,
     whole: Span,
     e: Spanned<Expr>,
@@ -102,7 +116,8 @@ fn operation(mark: Lexeme, e: Spanned<Expr>) -> Operation
     }
 }
 
-pub(crate) fn one_operation(
+/// One operator with what stands to its right. The only error is want of memory.
+pub fn one_operation(
     alloc: Global,
     whole: Span,
     mark: Lexeme,
@@ -113,7 +128,8 @@ pub(crate) fn one_operation(
     FrontList::new(alloc).push(operation(mark, e))
 }
 
-pub(crate) fn next_operation(
+/// An operator with what stands to its right, and those after it. The only error is want of memory.
+pub fn next_operation(
     whole: Span,
     mark: Lexeme,
     e: Spanned<Expr>,
@@ -144,7 +160,8 @@ fn cast_to(
     Ok(e)
 }
 
-pub(crate) fn casts(
+/// An expression and the types that it is cast to. The only error is want of memory.
+pub fn casts(
     alloc: Global,
     whole: Span,
     e: Spanned<Expr>,
@@ -155,7 +172,8 @@ pub(crate) fn casts(
     cast_to(alloc, whole.lo, e.value, more.value)
 }
 
-pub(crate) fn one_cast(
+/// A type after `as`, and those after it. The only error is want of memory.
+pub fn one_cast(
     whole: Span,
     word: Lexeme,
     ty: Lexeme,
@@ -182,7 +200,8 @@ fn fields_of(alloc: Global, lo: u32, first: Expr, fields: FrontList<Ident>) -> R
     Ok(e)
 }
 
-pub(crate) fn with_fields(
+/// An expression and its fields. The only error is want of memory.
+pub fn with_fields(
     alloc: Global,
     whole: Span,
     e: Spanned<Expr>,
@@ -223,7 +242,8 @@ fn negated(alloc: Global, whole: Span, operand: Span, e: Expr) -> Result<Expr, N
     }
 }
 
-pub(crate) fn minus(
+/// `-` and its operand. The only error is want of memory.
+pub fn minus(
     alloc: Global,
     whole: Span,
     mark: Lexeme,
@@ -234,7 +254,8 @@ pub(crate) fn minus(
     negated(alloc, whole, span_of(e.extent), e.value)
 }
 
-pub(crate) fn negation(
+/// `!` and its operand. The only error is want of memory.
+pub fn negation(
     alloc: Global,
     whole: Span,
     mark: Lexeme,
@@ -248,7 +269,8 @@ pub(crate) fn negation(
     })
 }
 
-pub(crate) fn dereference(
+/// `*` and its operand. The only error is want of memory.
+pub fn dereference(
     alloc: Global,
     whole: Span,
     mark: Lexeme,
@@ -262,7 +284,8 @@ pub(crate) fn dereference(
     })
 }
 
-pub(crate) fn borrow(
+/// `&` and what stands after it. The only error is want of memory.
+pub fn borrow(
     alloc: Global,
     whole: Span,
     mark: Lexeme,
@@ -277,7 +300,8 @@ pub(crate) fn borrow(
     })
 }
 
-pub(crate) fn borrowed(mutable: bool, e: Spanned<Expr>) -> Borrowed
+/// What stands after `&`, with `mut` where true.
+pub fn borrowed(mutable: bool, e: Spanned<Expr>) -> Borrowed
     ensures { result ≡ spec.borrowed mutable e }
 {
     Borrowed {

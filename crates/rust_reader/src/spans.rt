@@ -5,14 +5,15 @@ ghost use Rattle.rust_reader.specs.Spans as spec;
 
 use aen_base::Span;
 
-pub(crate) fn from_to(lo: u32, hi: u32) -> Span
+/// The span from one byte up to another.
+pub fn from_to(lo: u32, hi: u32) -> Span
     ensures { result ≡ spec.from_to lo hi }
 {
     Span { lo, hi }
 }
 
 /// The extent of both, one after the other.
-pub(crate) fn join(a: Option<Span>, b: Option<Span>) -> Option<Span>
+pub fn join(a: Option<Span>, b: Option<Span>) -> Option<Span>
     ensures { result ≡ spec.join a b }
 {
     let Some(first) = a else {
@@ -25,7 +26,7 @@ pub(crate) fn join(a: Option<Span>, b: Option<Span>) -> Option<Span>
 }
 
 /// The span of an extent; of none, the empty one at the beginning.
-pub(crate) fn span_of(extent: Option<Span>) -> Span
+pub fn span_of(extent: Option<Span>) -> Span
     ensures { result ≡ spec.span_of extent }
 {
     match extent {
@@ -34,7 +35,8 @@ pub(crate) fn span_of(extent: Option<Span>) -> Span
     }
 }
 
-pub(crate) fn same_span(a: Span, b: Span) -> bool
+/// Whether two spans are the same.
+pub fn same_span(a: Span, b: Span) -> bool
     ensures { result ≡ spec.same_span a b }
 {
     a.lo == b.lo && a.hi == b.hi
