@@ -23,7 +23,7 @@ import source_ways  # noqa: E402
 from grammar import Description, arguments  # noqa: E402
 
 VALUES, READER = (os.path.join(HERE, "..", "crates", c) for c in ("source_values", "source_reader"))
-WAYS = os.path.join(HERE, "..", "crates", "rust_reader")
+WAYS = os.path.join(HERE, "..", "crates", "source_ways")
 TOKEN = "Token"
 ORDINALS = "second third fourth fifth sixth".split()
 
@@ -327,8 +327,8 @@ use Rattle.source_grammar.specs.declared.part.Part.{Part}
 use Rattle.source_grammar.specs.declared.part.Part.TheVariants as N
 use Rattle.source_grammar.specs.declared.part.Listed.{Listed}
 use Rattle.source_grammar.specs.declared.part.Listed.TheVariants as Of
-use Rattle.rust_reader.specs.declared.spanned.Spanned.{Spanned}
-use Rattle.rust_reader.specs.Carriers.{Carrier, Listing}
+use Rattle.source_ways.specs.declared.spanned.Spanned.{Spanned}
+use Rattle.source_ways.specs.Carriers.{Carrier, Listing}
 use Rattle.source_values.specs.declared.value.Value.{Value}
 use Rattle.source_values.specs.declared.value.Value.TheVariants as V
 
@@ -365,7 +365,7 @@ def write_made(machine):
             more.append(f"use crate::taking::{{{', '.join(takes)}}};")
         for module in sorted(set(machine.modules.values())):
             if f"{module}::" in text:
-                more.append(f"use rust_reader::{module};")
+                more.append(f"use source_ways::{module};")
         head = f"//! What productions of {section} build. Written by tools/source_build.py.\n\n" + MADE
         for kind, (short, _, _) in ((k, v) for k, v in machine.grammar.parameters.items()):
             if re.search(rf"(?<![\w.]){short}\.", "\n".join(l for l in text.split("\n") if "IsBuilt" in l or "CanBuild" in l)):

@@ -4,8 +4,8 @@ use Rattle.source_grammar.specs.declared.part.Part.{Part}
 use Rattle.source_grammar.specs.declared.part.Part.TheVariants as N
 use Rattle.source_grammar.specs.declared.part.Listed.{Listed}
 use Rattle.source_grammar.specs.declared.part.Listed.TheVariants as Of
-use Rattle.rust_reader.specs.declared.spanned.Spanned.{Spanned}
-use Rattle.rust_reader.specs.Carriers.{Carrier, Listing}
+use Rattle.source_ways.specs.declared.spanned.Spanned.{Spanned}
+use Rattle.source_ways.specs.Carriers.{Carrier, Listing}
 use Rattle.source_values.specs.declared.value.Value.{Value}
 use Rattle.source_values.specs.declared.value.Value.TheVariants as V
 

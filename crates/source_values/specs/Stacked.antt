@@ -5,8 +5,8 @@ use Rattle.table_reader.specs.declared.item.Item.TheVariants as I
 use Rattle.table_reader.specs.Building as table
 use Rattle.source_grammar.specs.declared.lexeme.Lexeme.{Lexeme}
 use Rattle.source_grammar.specs.declared.part.Part.{Part}
-use Rattle.rust_reader.specs.Carriers.{Carrier}
-use Rattle.rust_reader.specs.Reading.{made}
+use Rattle.source_ways.specs.Carriers.{Carrier}
+use Rattle.source_ways.specs.Reading.{made}
 use Rattle.source_values.specs.declared.value.Value.{Value}
 use Rattle.source_values.specs.Held.{held}
 

@@ -7,14 +7,14 @@ use rust_ast::program::{Fields, Item, Param, Variant};
 use rust_ast::source::{Block, Expr};
 use rust_ast::source_patterns::{FieldPat, Pat};
 use rust_ast::source_types::{Lifetime, Written};
-use rust_reader::clauses::{ArmBody, Body, Conditional};
-use rust_reader::constructors::{AfterMem, AfterName, Given};
-use rust_reader::front_list::FrontList;
-use rust_reader::generics::Generics;
-use rust_reader::operations::{Borrowed, Operation};
-use rust_reader::paths::{After, Calling, Further, InMem};
-use rust_reader::spanned::Spanned;
 use source_grammar::Lexeme;
+use source_ways::clauses::{ArmBody, Body, Conditional};
+use source_ways::constructors::{AfterMem, AfterName, Given};
+use source_ways::front_list::FrontList;
+use source_ways::generics::Generics;
+use source_ways::operations::{Borrowed, Operation};
+use source_ways::paths::{After, Calling, Further, InMem};
+use source_ways::spanned::Spanned;
 
 /// The value of a part, with its extent: a variant for each type that parts carry.
 #[derive(Drop)]

@@ -7,10 +7,10 @@ ghost use Rattle.source_values.specs.Stacked.{CanBuild, IsBuilt};
 use aen_base::NoMem;
 use crate::taking::{take_arm_body, take_arms, take_block, take_body, take_conditional, take_expr, take_maybe_body, take_maybe_expr, take_maybe_written, take_pat, take_token};
 use crate::value::{Stack, Value};
-use rust_reader::blocks;
-use rust_reader::front_list::FrontList;
-use rust_reader::spanned::Spanned;
-use rust_reader::spans::{join, span_of};
+use source_ways::blocks;
+use source_ways::front_list::FrontList;
+use source_ways::spanned::Spanned;
+use source_ways::spans::{join, span_of};
 use std::alloc::Global;
 
 /// `Block` of: OpenBrace Statements. The only error is want of memory.

@@ -10,13 +10,13 @@ use aen_base::NoMem;
 use crate::taking::{take_after, take_borrowed, take_calling, take_casts, take_expr, take_exprs, take_ident, take_idents, take_maybe_expr, take_operations, take_token};
 use crate::value::{Stack, Value};
 use rust_ast::source::{Expr, ExprNode};
-use rust_reader::expressions;
-use rust_reader::front_list::FrontList;
-use rust_reader::operators;
-use rust_reader::path_ways;
-use rust_reader::says::ident;
-use rust_reader::spanned::Spanned;
-use rust_reader::spans::{join, span_of};
+use source_ways::expressions;
+use source_ways::front_list::FrontList;
+use source_ways::operators;
+use source_ways::path_ways;
+use source_ways::says::ident;
+use source_ways::spanned::Spanned;
+use source_ways::spans::{join, span_of};
 use std::alloc::Global;
 
 /// `LeadingExpression` of: Return Operand. The only error is want of memory.

@@ -7,10 +7,10 @@ ghost use Rattle.source_values.specs.Stacked.{CanBuild, IsBuilt};
 use aen_base::NoMem;
 use crate::taking::{take_block, take_fields, take_generics, take_idents, take_item, take_items, take_maybe_written, take_named_fields, take_nothing, take_params, take_token, take_variants, take_written, take_writtens};
 use crate::value::{Stack, Value};
-use rust_reader::front_list::FrontList;
-use rust_reader::items;
-use rust_reader::spanned::Spanned;
-use rust_reader::spans::{join, span_of};
+use source_ways::front_list::FrontList;
+use source_ways::items;
+use source_ways::spanned::Spanned;
+use source_ways::spans::{join, span_of};
 use std::alloc::Global;
 
 /// `Program` of: nothing.

@@ -8,10 +8,10 @@ ghost use Rattle.source_grammar.specs.declared.part.Listed.TheVariants as Of;
 use aen_base::NoMem;
 use crate::taking::{take_exprs, take_field, take_field_pat, take_field_pats, take_idents, take_initial, take_initials, take_named_fields, take_param, take_params, take_pats, take_token, take_variant, take_variants};
 use crate::value::{Stack, Value};
-use rust_reader::front_list::FrontList;
-use rust_reader::says::ident;
-use rust_reader::spanned::Spanned;
-use rust_reader::spans::join;
+use source_ways::front_list::FrontList;
+use source_ways::says::ident;
+use source_ways::spanned::Spanned;
+use source_ways::spans::join;
 use std::alloc::Global;
 
 /// `List(Names)` of: CloseBracket.

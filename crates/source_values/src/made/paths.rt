@@ -8,10 +8,10 @@ ghost use Rattle.source_grammar.specs.declared.part.Context.TheVariants as At;
 use aen_base::NoMem;
 use crate::taking::{take_after, take_calling, take_expr, take_exprs, take_further, take_in_mem, take_initials, take_nothing, take_token, take_writtens};
 use crate::value::{Stack, Value};
-use rust_reader::path_ways;
-use rust_reader::paths::InMem;
-use rust_reader::spanned::Spanned;
-use rust_reader::spans::{join, span_of};
+use source_ways::path_ways;
+use source_ways::paths::InMem;
+use source_ways::spanned::Spanned;
+use source_ways::spans::{join, span_of};
 use std::alloc::Global;
 
 /// `AfterStdMem` of: nothing.

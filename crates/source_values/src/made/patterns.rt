@@ -8,11 +8,11 @@ use aen_base::NoMem;
 use crate::taking::{take_after_mem, take_after_name, take_field_pats, take_given, take_maybe_pat, take_pat, take_pats, take_token, take_writtens};
 use crate::value::{Stack, Value};
 use rust_ast::source_patterns::{Pat, PatNode};
-use rust_reader::constructors::{AfterMem, AfterName, Given};
-use rust_reader::front_list::FrontList;
-use rust_reader::patterns;
-use rust_reader::spanned::Spanned;
-use rust_reader::spans::{join, span_of};
+use source_ways::constructors::{AfterMem, AfterName, Given};
+use source_ways::front_list::FrontList;
+use source_ways::patterns;
+use source_ways::spanned::Spanned;
+use source_ways::spans::{join, span_of};
 use std::alloc::Global;
 
 /// `Pattern` of: Wild.

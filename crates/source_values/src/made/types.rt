@@ -8,11 +8,11 @@ use aen_base::NoMem;
 use crate::taking::{take_lifetime, take_token, take_truth, take_written, take_writtens};
 use crate::value::{Stack, Value};
 use rust_ast::source_types::{Lifetime, LifetimeNode, Written, WrittenNode};
-use rust_reader::front_list::FrontList;
-use rust_reader::says::lifetime;
-use rust_reader::spanned::Spanned;
-use rust_reader::spans::{join, span_of};
-use rust_reader::types;
+use source_ways::front_list::FrontList;
+use source_ways::says::lifetime;
+use source_ways::spanned::Spanned;
+use source_ways::spans::{join, span_of};
+use source_ways::types;
 use std::alloc::Global;
 
 /// `Type` of: IntWord.
