@@ -8,10 +8,10 @@ Written into source_values are
     src/taking.rt                      how it is taken off the stack
     src/made.rt, src/made/*.rt         what productions build, one function for those that do the same
 
-and into source_reader
+and into source_builder
 
-    src/building.rt, src/building/*.rt         which of them builds a part by its production
-    proofs/building/*, proofs/Shared.antt      that these are the same
+    src/building.rt, src/building/*.rt     which of them builds a part by its production
+    proofs/building/*, proofs/Levels.antt  that these build the same
 """
 import os
 import re
@@ -22,7 +22,7 @@ sys.path.insert(0, HERE)
 import source_ways  # noqa: E402
 from grammar import Description, arguments  # noqa: E402
 
-VALUES, READER = (os.path.join(HERE, "..", "crates", c) for c in ("source_values", "source_reader"))
+VALUES, BUILDER = (os.path.join(HERE, "..", "crates", c) for c in ("source_values", "source_builder"))
 WAYS = os.path.join(HERE, "..", "crates", "source_ways")
 TOKEN = "Token"
 ORDINALS = "second third fourth fifth sixth".split()
@@ -375,12 +375,307 @@ def write_made(machine):
           + "".join(f"pub mod {s};\n" for s in sorted(files)))
 
 
+# ---- which function builds a part by its production
+
+VARIABLE = {"m": "context", "l": "level", "x": "listed"}
+
+
+class Function:
+    """A function that chooses: its name, what its contract speaks of, what it matches on, and its arms, each with
+    what is known there, and what it calls."""
+
+    def __init__(self, name, part, place, subject, params, arms, last=False, fallible=True):
+        self.name, self.part, self.place, self.subject = name, part, place, subject
+        self.params, self.arms, self.last, self.fallible = params, arms, last, fallible
+
+
+class Arm:
+    """A case, and the call there: of whom, the arguments, whether it can fail, and how its contract fits: None where
+    it does so alone, else the terms of what is required and what is ensured."""
+
+    def __init__(self, case, name, call, fallible, own, required=None, ensured=None):
+        self.case, self.name, self.call, self.fallible, self.own = case, name, call, fallible, own
+        self.required, self.ensured = required, ensured
+
+
+def calls(entry):
+    at, _, _, _, _, way, _, _ = entry
+    alloc = "alloc, " if re.search(r"\balloc\b", way.code) else ""
+    return at, f"{at}({alloc}values)", way.fallible
+
+
+def shown_part(name, variables):
+    return f"(N.{name} {' '.join(variables)})" if variables else f"N.{name}"
+
+
+def place_arms(machine, name, values, part):
+    arms = []
+    for place in range(len(machine.grammar.table["part", name, values])):
+        entry = machine.function_of[name, values, place]
+        at, call, fallible = calls(entry)
+        own = entry[1:4] == (name, (), place)
+        arms.append(Arm(str(place), at, call, fallible, own, "same", "same"))
+    return arms
+
+
+def part_functions(machine):
+    """By section."""
+    found = {}
+    for name, (variables, _, section, _) in machine.grammar.parts.items():
+        at, kinds = snake(name), machine.grammar.kinds[name]
+        params = [(VARIABLE[v], k) for v, k in zip(variables, kinds)]
+        part = shown_part(name, [VARIABLE[v] for v in variables])
+        out = found.setdefault(machine.section(name), [])
+        every = list(machine.grammar.values_of(kinds))
+        alike = [[machine.function_of[name, v, i][0] for i in range(len(machine.grammar.table["part", name, v]))] for v in every]
+        index = ("index", "usize")
+        if kinds in ([], ["Context"]) and all(a == alike[0] for a in alike):
+            out.append(Function(f"build_{at}", part, "index", "index", params + [index], place_arms(machine, name, every[0], part), True))
+        elif kinds == ["Context"]:
+            arms = []
+            for v in every:
+                each = f"build_{at}_{snake(v[0])}"
+                out.append(Function(each, machine.part(name, v), "index", "index", [index],
+                                    place_arms(machine, name, v, machine.part(name, v)), True))
+                arms.append(Arm(f"Context::{v[0]}", each, f"{each}(alloc, index, values)", True, True, None, f"(N.{name} At.{v[0]})"))
+            out.append(Function(f"build_{at}", part, "index", "context", params + [index], arms))
+        elif "Listed" in kinds:
+            ends = "list_end" if name == "List" else None
+            if name == "List":
+                out.append(list_function(machine, name, 0, "list_end", every))
+                out.append(list_function(machine, name, 1, "list_item", every))
+                names = ["list_end", "list_item"]
+            else:
+                out.append(list_function(machine, name, 1, "list_more", every))
+                names = ["list_end", "list_more"]
+            arms = []
+            for i, each in enumerate(names):
+                function = next(f for f in out if f.name == each)
+                alloc = "alloc, " if uses_alloc(function) else ""
+                arms.append(Arm(str(i), each, f"{each}({alloc}listed, values)", function.fallible, (name, i) != ("ListRest", 0), "same", "same"))
+            out.append(Function(f"build_{at}", part, "index", "index", params + [index], arms, True))
+        elif name == "More":
+            entry = machine.function_of["More", ("Or", "Free"), 0]
+            a, call, fallible = calls(entry)
+            arms = [Arm("0", a, call, fallible, False, "levels", "levels"),
+                    Arm("1", "build_operation", "build_operation(alloc, level, context, values)", True, True, None, "same")]
+            inner = [Arm(f"Level::{l}", *calls(machine.function_of["More", (l, "Free"), 1]), False, "level", "level")
+                     for l in machine.grammar.parameters["Level"][2]]
+            out.append(Function("build_operation", part, "1", "level", params, inner))
+            out.append(Function(f"build_{at}", part, "index", "index", params + [index], arms, True))
+        else:
+            entry = machine.function_of[name, every[0], 0]
+            arms = [Arm("0", *calls(entry), False, "levels", "levels")]
+            out.append(Function(f"build_{at}", part, "index", "index", params + [index], arms, True))
+    return found
+
+
+def list_function(machine, name, place, at, every):
+    arms = []
+    for v in every:
+        entry = machine.function_of[name, v, place]
+        arms.append(Arm(f"Listed::{v[0]}", *calls(entry), False, "listed", "listed"))
+    return Function(at, f"(N.{name} listed)", str(place), "listed", [("listed", "Listed")], arms, False, arms[0].fallible)
+
+
+def uses_alloc(function):
+    return any("alloc" in arm.call for arm in function.arms)
+
+
+def function_code(machine, function):
+    alloc = "alloc: Global, " if uses_alloc(function) else ""
+    params = "".join(f"{n}: {k}, " for n, k in function.params)
+    lines = []
+    for arm in function.arms:
+        call = arm.call if arm.fallible or not function.fallible else f"Ok({arm.call})"
+        lines.append(f"        {arm.case} => {call},")
+    if function.last:
+        lines.append("        _ => unreachable!(),")
+    built = f"IsBuilt {function.part} {function.place} (reverse values.old)"
+    sign, ensures = ("Result<Value, NoMem>", f"IfOk result (λ it. {built} it (reverse values.new))") if function.fallible else (
+        "Value", f"{built} result (reverse values.new)")
+    return "\n".join([
+        f"pub(crate) fn {function.name}({alloc}{params}values: &mut Stack) -> {sign}",
+        f"    requires {{ CanBuild {function.part} {function.place} (reverse values.old) }}",
+        f"    ensures {{ {ensures} }}", "{", f"    match {function.subject} {{"] + lines + ["    }", "}"]) + "\n"
+
+
+def write_building(machine):
+    found = part_functions(machine)
+    of = {}
+    for section, functions in found.items():
+        text = "\n".join(function_code(machine, f) for f in functions)
+        more = ["use source_values::{Stack, Value};"]
+        for made in sorted(set(machine.section(e[1]) for e in machine.made.values())):
+            names = sorted(set(e[0] for e in machine.made.values() if machine.section(e[1]) == made and re.search(rf"\b{e[0]}\(", text)))
+            if names:
+                more.append(f"use source_values::made::{made}::{{{', '.join(names)}}};")
+        head = f"//! What builds {section} by their productions. Written by tools/source_build.py.\n\n" + MADE
+        contracts = "\n".join(l for l in text.split("\n") if "IsBuilt" in l or "CanBuild" in l)
+        for kind, (short, _, _) in machine.grammar.parameters.items():
+            if re.search(rf"(?<![\w.]){short}\.", contracts):
+                head += f"ghost use Rattle.source_grammar.specs.declared.part.{kind}.TheVariants as {short};\n"
+        write(os.path.join(BUILDER, "src", "building", section + ".rt"), head + "\n" + machine.uses(text, more) + "\n" + text)
+        for f in functions:
+            of[f.name] = section
+            write_answers(machine, f"building.{section}", f)
+    write_build(machine, found)
+
+
+PREAMBLE = {
+    "N.": "use Rattle.source_grammar.specs.declared.part.Part.TheVariants as N",
+    "At.": "use Rattle.source_grammar.specs.declared.part.Context.TheVariants as At",
+    "L.": "use Rattle.source_grammar.specs.declared.part.Level.TheVariants as L",
+    "Of.": "use Rattle.source_grammar.specs.declared.part.Listed.TheVariants as Of",
+    "levels.": "use Rattle.source_builder.proofs.Levels as levels",
+}
+LEVELS = {"build_more": "no_more", "build_level": "level", "build_leading_level": "leading_level"}
+
+
+def uses_of(text, module, section, name):
+    common = [w for w in ("ap", "reverse") if re.search(rf"\b{w}\b", text)] + (["Ok"] if "(Ok " in text else [])
+    places = [w for w in ("at_place", "built_at_place", "of_part", "built_of_part", "is_of_part") if re.search(rf"(?<![\w])({w})\b", text)]
+    lines = [f"use Rattle.std.proofs.Common.{{{', '.join(common)}}}"]
+    lines += [line for short, line in PREAMBLE.items() if re.search(rf"(?<![\w.]){re.escape(short)}\w", text)]
+    if places:
+        lines.append(f"use Rattle.source_builder.proofs.Places.{{{', '.join(places)}}}")
+    lines.append(f"use Rattle.source_builder.proofs.{module}.{name}.Goals as goal")
+    return "\n".join(lines) + "\n"
+
+
+def answers(machine, function):
+    """The answers to the goals of a function that chooses."""
+    part = re.sub(r"\b(context|level|listed)\b", r"c.args.\1", function.part)
+    variables = " ".join(re.findall(r"c\.args\.\w+", part))
+    old, out, seen = "(reverse c.args.values.now)", [], set()
+    for arm in function.arms:
+        case = arm.case.split("::")[-1]
+        first = arm.name not in seen
+        seen.add(arm.name)
+        step = arm.name if first else f"{arm.name}-in-{case}"
+        goal = f"{arm.name}-requires" + ("" if first else f"-in-{case}")
+        new, result, ensured = f"(reverse c.{step}.new.values)", f"c.{step}.result", f"c.{step}.ensures"
+        if not arm.fallible and function.fallible:
+            result = f"(Ok {result})"
+        if function.subject == "index":
+            fits, known = f"at_place {part} c.args.index {case} {old} c.in-{case}.is c.requires", f"c.in-{case}.is"
+            built = f"built_at_place {part} c.args.index {case} {old} {new} {result} {known} "
+        else:
+            kind = {"context": ("Context", "At"), "level": ("Level", "L"), "listed": ("Listed", "Of")}[function.subject]
+            here = re.sub(rf"c\.args\.{function.subject}", f"{kind[1]}.{case}", part)
+            whole = re.sub(rf"c\.args\.{function.subject}", "x", part)
+            known = f"(ap (λ (x : {kind[0]}). {whole}) c.in-{case}.is)"
+            place = "c.args.index" if function.place == "index" else function.place
+            fits = f"of_part {part} {here} {place} {old} {known} c.requires"
+            word = "built" if function.fallible else "is"
+            built = f"{word}_of_part {part} {here} {place} {old} {new} {result} {known} "
+        if not arm.own and arm.required != "alone":
+            if arm.required == "levels":
+                out.append((goal, f"levels.{LEVELS[function.name]} {variables} {old} ({fits})"))
+                ensured = f"(levels.{LEVELS[function.name]}_built {variables} {old} {new} {result} {ensured})"
+            else:
+                out.append((goal, f"let h = {fits} in\n    record {{ value = h.value; below = h.below; makes = h.makes }}"))
+        out.append((f"returns-in-{case}", built + ensured))
+    if function.name == "build_more":
+        out.append(("unreachable-requires", f"levels.no_third {variables} c.args.index {old} c.in_default.not-0 c.in_default.not-1 c.requires"))
+    return "".join(f"\npub {g} : goal.{g}\n{g} c =\n    {t}\n" for g, t in out)
+
+
+def write_answers(machine, module, function):
+    text = answers(machine, function)
+    kinds = [k for k in ("Context", "Level", "Listed") if re.search(rf"\(x : {k}\)", text)]
+    head = uses_of(text, module, None, function.name)
+    head = "".join(f"use Rattle.source_grammar.specs.declared.part.{k}.{{{k}}}\n" for k in kinds) + head
+    write(os.path.join(BUILDER, "proofs", *module.split("."), function.name, "Answers.antt"),
+          f"-- What `{function.name}` calls builds the part. Written by tools/source_build.py.\n" + head + text)
+
+
+def write_build(machine, found):
+    arms, proofs = [], []
+    for section, functions in found.items():
+        for name, (variables, _, _, _) in machine.grammar.parts.items():
+            if machine.section(name) != section:
+                continue
+            function = next(f for f in functions if f.name == f"build_{snake(name)}")
+            given = ", ".join(VARIABLE[v] for v in variables)
+            alloc = "alloc, " if uses_alloc(function) else ""
+            call = f"{section}::{function.name}({alloc}{given + ', ' if given else ''}index, values)"
+            arms.append(f"        Part::{name}{f'({given})' if given else ''} => {call},")
+            part = shown_part(name, [f"c.in-{name}.{VARIABLE[v]}" for v in variables])
+            proofs.append((f"returns-in-{name}", f"built_of_part c.args.part {part} c.args.index (reverse c.args.values.now) "
+                           f"(reverse c.{function.name}.new.values) c.{function.name}.result c.in-{name}.is c.{function.name}.ensures"))
+    built = "IsBuilt part index (reverse values.old)"
+    text = ("/// Builds the value of a part by its production in place `index`, from 0: takes the values of its symbols off, the\n"
+            "/// newest first. The only error is want of memory.\n"
+            "pub(crate) fn build_part(alloc: Global, part: Part, index: usize, values: &mut Stack) -> Result<Value, NoMem>\n"
+            "    requires { CanBuild part index (reverse values.old) }\n"
+            f"    ensures {{ IfOk result (λ it. {built} it (reverse values.new)) }}\n{{\n    match part {{\n"
+            + "\n".join(arms) + "\n    }\n}\n")
+    head = "//! What builds a part by its production. Written by tools/source_build.py.\n\n" + "".join(f"mod {s};\n" for s in sorted(found))
+    made = MADE.replace("ghost use Rattle.source_grammar.specs.declared.part.Part.TheVariants as N;\n", "")
+    write(os.path.join(BUILDER, "src", "building.rt"), head + "\n" + made + "\n"
+          + machine.uses(text, ["use source_values::{Stack, Value};"]) + "\n" + text)
+    body = "".join(f"\npub {g} : goal.{g}\n{g} c = {t}\n" for g, t in proofs)
+    write(os.path.join(BUILDER, "proofs", "building", "build_part", "Answers.antt"),
+          "-- Each part is built by a function of its own. Written by tools/source_build.py.\n"
+          + uses_of(body, "building", None, "build_part") + body)
+
+
+LEVELS_HEAD = """-- Levels of operators build alike. Written by tools/source_build.py.
+use Rattle.std.proofs.Common.{◌≡◌, refl, ℕ, zero, suc, List, [], ◌∷◌, IfOk}
+use Rattle.std.specs.declared.result.Result.{Result}
+use Rattle.table_reader.specs.Reading.{Made}
+use Rattle.table_reader.specs.Building as table
+use Rattle.aen_base.specs.declared.memory.NoMem.{NoMem}
+use Rattle.source_grammar.specs.declared.lexeme.Lexeme.{Lexeme}
+use Rattle.source_grammar.specs.declared.terminal.Terminal.{Terminal}
+use Rattle.source_grammar.specs.declared.part.Part.{Part}
+use Rattle.source_grammar.specs.declared.part.Part.TheVariants as N
+use Rattle.source_grammar.specs.declared.part.Context.{Context}
+use Rattle.source_grammar.specs.declared.part.Context.TheVariants as At
+use Rattle.source_grammar.specs.declared.part.Level.{Level}
+use Rattle.source_grammar.specs.declared.part.Level.TheVariants as L
+use Rattle.source_ways.specs.Carriers.{Carrier}
+use Rattle.source_values.specs.declared.value.Value.{Value}
+use Rattle.source_values.specs.Held.{held}
+use Rattle.source_values.specs.Stacked.{Stack, CanBuild, IsBuilt}
+"""
+
+
+def write_levels(machine):
+    levels = list(machine.grammar.parameters["Level"][2])
+    text = LEVELS_HEAD
+    for name, lemma, m in (("Level", "level", "m"), ("LeadingLevel", "leading_level", ""), ("More", "no_more", "m")):
+        entry = machine.function_of[name, ("Or", "Free")[:2 if m else 1], 0]
+        there = f"{machine.part(entry[1], entry[2])} {entry[3]}"
+        params, here = f"(l : Level){' (m : Context)' if m else ''}", f"(N.{name} l{' m' if m else ''}) 0"
+        text += f"\npub {lemma} : {params} (stack : Stack) → CanBuild {here} stack → CanBuild {there} stack\n"
+        text += "".join(f"{lemma} L.{l} {m} stack h = record {{ value = h.value; below = h.below; makes = h.makes }}\n".replace("  ", " ") for l in levels)
+        text += (f"\npub {lemma}_built : {params} (stack new : Stack) (result : Result Value NoMem) →\n"
+                 f"    IfOk result (λ it. IsBuilt {there} stack it new) → IfOk result (λ it. IsBuilt {here} stack it new)\n")
+        text += "".join(f"{lemma}_built L.{l} {m} stack new result h = h\n".replace("  ", " ") for l in levels)
+    text += """
+-- of two productions none stands in a third place
+third : (n : Part) (a b : Made Terminal Part Lexeme Carrier n) (i : ℕ) (stack : Stack) → (i ≡ 0 → ⊥) → (i ≡ 1 → ⊥) →
+    table.CanBuild Carrier held n (a ∷ b ∷ []) i stack → ⊥
+third n a b zero stack first second h = first refl
+third n a b (suc zero) stack first second h = second refl
+third n a b (suc (suc i)) stack first second h = h.makes
+
+pub no_third : (l : Level) (m : Context) (i : ℕ) (stack : Stack) → (i ≡ 0 → ⊥) → (i ≡ 1 → ⊥) → CanBuild (N.More l m) i stack → ⊥
+"""
+    text += "".join(f"no_third L.{l} m i stack first second h = third (N.More L.{l} m) _ _ i stack first second h\n" for l in levels)
+    write(os.path.join(BUILDER, "proofs", "Levels.antt"), text)
+
+
 def main():
     machine = Machine()
     write_value(machine)
     write_taking(machine)
     write_held(machine)
     write_made(machine)
+    write_building(machine)
+    write_levels(machine)
 
 
 if __name__ == "__main__":

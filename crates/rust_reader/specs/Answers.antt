@@ -1,0 +1,53 @@
+-- What the tokens of a text come to (docs/LANGUAGE.md, "Grammar", "Limits", "Words of the command line").
+use Rattle.std.specs.Prelude.{◌≡◌, ⊤, ℕ, List, [], ◌∷◌, Option, Some, None, MatchOption, MatchResult, length}
+use Rattle.std.specs.declared.result.Result.{Result}
+use Rattle.aen_base.specs.declared.span.Span.{Span}
+use Rattle.table_reader.specs.declared.take.Take.TheVariants as K
+use Rattle.table_reader.specs.Reading as table
+use Rattle.rust_lex.specs.declared.token.Token.{Token}
+use Rattle.source_grammar.specs.declared.lexeme.Lexeme.{Lexeme}
+use Rattle.source_grammar.specs.declared.part.Part.TheVariants as N
+use Rattle.source_grammar.specs.declared.part.Listed.TheVariants as Of
+use Rattle.source_grammar.specs.declared.terminal.Terminal.TheVariants as T
+use Rattle.source_grammar.specs.Lexemes.{takes}
+use Rattle.source_syntax.specs.declared.refusal.Refusal.TheVariants as R
+use Rattle.source_syntax.specs.Refusals.{IsCause, IsKept}
+use Rattle.source_syntax.specs.Spelled.{lexemes}
+use Rattle.source_ways.specs.Carriers.{Carrier}
+use Rattle.source_ways.specs.Reading.{Reads, made}
+use Rattle.source_ways.specs.Says.{name_in}
+use Rattle.rust_ast.specs.declared.program.Program.{Program}
+use Rattle.rust_ast.specs.SourceTypes as t
+use Rattle.rust_reader.specs.declared.fault.ReadFault.{ReadFault}
+use Rattle.rust_reader.specs.declared.fault.ReadFault.TheVariants as F
+
+-- these lexemes are read as this program, and as no other
+pub record IsProgram (ls : List Lexeme) (p : Program) : Type 0 where
+  pub reads : Reads ls p
+  pub only : (other : Program) → Reads ls other → other ≡ p
+
+-- each fault has its cause; want of memory alone may come at any source
+abbrev pub IsFault : List Token → List Lexeme → Option Span → ℕ → ReadFault → Type 0
+IsFault ts ls bad end (F.Unsupported span) = IsCause ts ls bad end (R.Unsupported span)
+IsFault ts ls bad end (F.Limit which n) = IsCause ts ls bad end (R.Limit which n)
+IsFault ts ls bad end (F.Syntax span) = IsCause ts ls bad end (R.Syntax span)
+IsFault ts ls bad end F.Memory = ⊤
+
+-- what tokens, which are these lexemes, come to, up to a lexical fault in a text of so many bytes
+abbrev pub IsReading : List Token → List Lexeme → Option Span → ℕ → Result Program ReadFault → Type 0
+IsReading ts ls bad end result = MatchResult result (λ p. IsKept ts ls bad × IsProgram ls p) (λ f. IsFault ts ls bad end f)
+
+abbrev pub IsAnswer : List ℕ → List Token → Option Span → Result Program ReadFault → Type 0
+IsAnswer text ts bad result = IsReading ts (lexemes text None ts) bad (length text) result
+
+-- lexemes are the name of a function with types: a name alone, or `::<` and types up to `>`
+pub data ReadsCallName : List Lexeme → List ℕ → List t.Written → Type 0 where
+  alone : (name : Lexeme) → takes T.Identifier name ≡ K.Whole → ReadsCallName (name ∷ []) (name_in name.content) []
+  typed : (name colons less : Lexeme) (rest : List Lexeme) (v : Carrier (N.List Of.TypesInAngles)) →
+      takes T.Identifier name ≡ K.Whole → takes T.Colons colons ≡ K.Whole → takes T.Less less ≡ K.Whole →
+      table.Reads takes Carrier made (N.List Of.TypesInAngles) rest [] v → ReadsCallName (name ∷ colons ∷ less ∷ rest) (name_in name.content) v.value
+
+-- of a text without a lexical fault: its name and types, or that it is none
+abbrev pub IsCallName : List Lexeme → Option Span → Option (List ℕ × List t.Written) → Type 0
+IsCallName ls bad o =
+    MatchOption o (bad ≡ None → (name : List ℕ) (tys : List t.Written) → ReadsCallName ls name tys → ⊥) (λ (name, tys). (bad ≡ None) × ReadsCallName ls name tys)
