@@ -256,7 +256,7 @@ TAKING = '''//! Values of symbols, taken off the stack. Written by tools/source_
 ghost use Rattle.std.specs.Prelude.{◌≡◌, ◌∷◌, reverse};
 ghost use Rattle.table_reader.specs.declared.item.Item.TheVariants as I;
 ghost use Rattle.source_values.specs.declared.value.Value.TheVariants as V;
-ghost use Rattle.source_values.specs.Stacked.{HasToken, HasPart, Has};
+ghost use Rattle.source_values.specs.Stacked.{HasToken, HasPart, Has, Is};
 
 '''
 
@@ -309,6 +309,22 @@ pub(crate) fn take_{snake(name)}(values: &mut Stack) -> Spanned<{code}>
     ensures {{ reverse values.old ≡ I.Part (V.{name} result) ∷ reverse values.new }}
 {{
     match take_part(values) {{
+        Value::{name}(value) => value,
+        other => {{
+            discard(other);
+            unreachable!()
+        }}
+    }}
+}}
+'''
+    for name, doc in (("Items", "The items of a program"), ("Writtens", "The types of a list")):
+        text += f'''
+/// {doc} that a value holds.
+pub fn held_{snake(name)}(value: Value) -> Spanned<{machine.code_of[name]}>
+    requires {{ Is V.{name} value }}
+    ensures {{ value ≡ V.{name} result }}
+{{
+    match value {{
         Value::{name}(value) => value,
         other => {{
             discard(other);

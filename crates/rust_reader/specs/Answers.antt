@@ -40,12 +40,19 @@ IsReading ts ls bad end result = MatchResult result (λ p. IsKept ts ls bad × I
 abbrev pub IsAnswer : List ℕ → List Token → Option Span → Result Program ReadFault → Type 0
 IsAnswer text ts bad result = IsReading ts (lexemes text None ts) bad (length text) result
 
--- lexemes are the name of a function with types: a name alone, or `::<` and types up to `>`
+-- types up to `>`
+abbrev pub ReadsList : List Lexeme → Carrier (N.List Of.TypesInAngles) → Type 0
+ReadsList ls v = table.Reads takes Carrier made (N.List Of.TypesInAngles) ls [] v
+
+-- what stands after a name there: nothing, or `::<` and types up to `>`
+pub data ReadsTypes : List Lexeme → List t.Written → Type 0 where
+  nothing : ReadsTypes [] []
+  given : (colons less : Lexeme) (rest : List Lexeme) (v : Carrier (N.List Of.TypesInAngles)) → takes T.Colons colons ≡ K.Whole → takes T.Less less ≡ K.Whole →
+      ReadsList rest v → ReadsTypes (colons ∷ (less ∷ rest)) v.value
+
+-- lexemes are a function's name, perhaps with types
 pub data ReadsCallName : List Lexeme → List ℕ → List t.Written → Type 0 where
-  alone : (name : Lexeme) → takes T.Identifier name ≡ K.Whole → ReadsCallName (name ∷ []) (name_in name.content) []
-  typed : (name colons less : Lexeme) (rest : List Lexeme) (v : Carrier (N.List Of.TypesInAngles)) →
-      takes T.Identifier name ≡ K.Whole → takes T.Colons colons ≡ K.Whole → takes T.Less less ≡ K.Whole →
-      table.Reads takes Carrier made (N.List Of.TypesInAngles) rest [] v → ReadsCallName (name ∷ colons ∷ less ∷ rest) (name_in name.content) v.value
+  by : (name : Lexeme) (rest : List Lexeme) (tys : List t.Written) → takes T.Identifier name ≡ K.Whole → ReadsTypes rest tys → ReadsCallName (name ∷ rest) (name_in name.content) tys
 
 -- of a text without a lexical fault: its name and types, or that it is none
 abbrev pub IsCallName : List Lexeme → Option Span → Option (List ℕ × List t.Written) → Type 0

@@ -4,6 +4,8 @@ ghost use Rattle.std.specs.Prelude.{◌≡◌, None, IfOk, MatchResult};
 ghost use Rattle.source_grammar.specs.declared.part.Part.TheVariants as N;
 ghost use Rattle.source_ways.specs.Carriers.{Carrier};
 ghost use Rattle.source_values.specs.Held.{held};
+ghost use Rattle.source_values.specs.Stacked.{Is};
+ghost use Rattle.source_values.specs.declared.value.Value.TheVariants as V;
 ghost use Rattle.source_syntax.specs.Refusals as syntax;
 ghost use Rattle.rust_reader.specs.Answers.{IsProgram};
 
@@ -12,7 +14,7 @@ use rust_ast::program::Program;
 use source_builder::SourceReader;
 use source_grammar::{Lexeme, Part};
 use source_syntax::fault_at;
-use source_values::Value;
+use source_values::{Value, held_items};
 use std::alloc::Global;
 
 /// The program that the lexemes before a lexical fault are, in a text of so many bytes, or where they
@@ -36,10 +38,10 @@ pub(crate) fn program_or_fault(
 
 /// The program that a value of the whole holds.
 fn program_of(value: Value) -> Program
-    requires { HoldsProgram value }
+    requires { Is V.Items value }
     ensures { (v : Carrier N.Program) → value ≡ held N.Program v → result ≡ record { items = v.value } }
 {
-    let items = value.into_items();
+    let items = held_items(value);
     Program {
         items: items.value.into_list(),
     }

@@ -31,6 +31,11 @@ pub record Has {A : Type 0} (variant : A → Value) (stack : Stack) : Type 0 whe
   pub below : Stack
   pub is : stack ≡ I.Part (variant value) ∷ below
 
+-- a value of this variant
+pub record Is {A : Type 0} (variant : A → Value) (it : Value) : Type 0 where
+  pub value : A
+  pub is : it ≡ variant value
+
 -- the values of the symbols of a part's production in this place stand on top
 abbrev pub CanBuild : Part → ℕ → Stack → Type 0
 CanBuild n i stack = table.CanBuild Carrier held n (made n) i stack

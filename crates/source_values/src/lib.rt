@@ -5,4 +5,5 @@ pub mod made;
 mod taking;
 mod value;
 
+pub use taking::{held_items, held_writtens};
 pub use value::{Stack, Value};

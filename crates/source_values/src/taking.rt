@@ -3,7 +3,7 @@
 ghost use Rattle.std.specs.Prelude.{◌≡◌, ◌∷◌, reverse};
 ghost use Rattle.table_reader.specs.declared.item.Item.TheVariants as I;
 ghost use Rattle.source_values.specs.declared.value.Value.TheVariants as V;
-ghost use Rattle.source_values.specs.Stacked.{HasToken, HasPart, Has};
+ghost use Rattle.source_values.specs.Stacked.{HasToken, HasPart, Has, Is};
 
 use aen_base::{IntTy, Name, Span};
 use crate::value::{Stack, Value};
@@ -666,6 +666,34 @@ pub(crate) fn take_after_mem(values: &mut Stack) -> Spanned<AfterMem>
 {
     match take_part(values) {
         Value::AfterMem(value) => value,
+        other => {
+            discard(other);
+            unreachable!()
+        }
+    }
+}
+
+/// The items of a program that a value holds.
+pub fn held_items(value: Value) -> Spanned<FrontList<Item>>
+    requires { Is V.Items value }
+    ensures { value ≡ V.Items result }
+{
+    match value {
+        Value::Items(value) => value,
+        other => {
+            discard(other);
+            unreachable!()
+        }
+    }
+}
+
+/// The types of a list that a value holds.
+pub fn held_writtens(value: Value) -> Spanned<FrontList<Written>>
+    requires { Is V.Writtens value }
+    ensures { value ≡ V.Writtens result }
+{
+    match value {
+        Value::Writtens(value) => value,
         other => {
             discard(other);
             unreachable!()
