@@ -202,10 +202,12 @@ def production(machine, name, values, place):
 def made_function(machine, entry):
     at, name, values, place, symbols, way, kinds, result = entry
     part = machine.part(name, values)
-    takes = [f"    let {n} = take_{snake(k)}(values);" for n, k in reversed(list(zip(way.names, kinds)))]
-    extent = "None"
+    takes, extent = [], "None"
     for n, k in reversed(list(zip(way.names, kinds))):
-        extent = f"join(Some({n}.span), {extent})" if k == TOKEN else f"join({n}.extent, {extent})"
+        used = k != TOKEN or re.search(rf"(?<![\w.:]){n}(?![\w(:])", way.code)
+        takes.append(f"    let {n} = take_{snake(k) if used else 'mark'}(values);")
+        where = f"{n}.extent" if k != TOKEN else f"Some({n}.span)" if used else f"Some({n})"
+        extent = f"join({where}, {extent})"
     body = takes + [f"    let extent = {extent};"] if kinds else ["    let extent = None;"]
     if way.code in way.names or way.code.endswith(".value"):
         value = f"Value::{result}(Spanned {{ value: {way.code}, extent }})"
@@ -256,7 +258,7 @@ TAKING = '''//! Values of symbols, taken off the stack. Written by tools/source_
 ghost use Rattle.std.specs.Prelude.{◌≡◌, ◌∷◌, reverse};
 ghost use Rattle.table_reader.specs.declared.item.Item.TheVariants as I;
 ghost use Rattle.source_values.specs.declared.value.Value.TheVariants as V;
-ghost use Rattle.source_values.specs.Stacked.{HasToken, HasPart, Has, Is};
+ghost use Rattle.source_values.specs.Stacked.{HasToken, HasMark, HasPart, Has, Is};
 
 '''
 
@@ -277,6 +279,15 @@ pub(crate) fn take_token(values: &mut Stack) -> Lexeme
             unreachable!()
         }
     }
+}
+
+/// Takes a lexeme off of which only its place counts.
+pub(crate) fn take_mark(values: &mut Stack) -> Span
+    requires { HasToken (reverse values.old) }
+    ensures { HasMark (reverse values.old) result (reverse values.new) }
+{
+    let lexeme = take_token(values);
+    lexeme.span
 }
 
 /// Drops a value: in one place, since what drops each variant is long.
@@ -453,7 +464,8 @@ def part_functions(machine):
                 each = f"build_{at}_{snake(v[0])}"
                 out.append(Function(each, machine.part(name, v), "index", "index", [index],
                                     place_arms(machine, name, v, machine.part(name, v)), True))
-                arms.append(Arm(f"Context::{v[0]}", each, f"{each}(alloc, index, values)", True, True, None, f"(N.{name} At.{v[0]})"))
+                alloc = "alloc, " if uses_alloc(out[-1]) else ""
+                arms.append(Arm(f"Context::{v[0]}", each, f"{each}({alloc}index, values)", True, True))
             out.append(Function(f"build_{at}", part, "index", "context", params + [index], arms))
         elif "Listed" in kinds:
             ends = "list_end" if name == "List" else None

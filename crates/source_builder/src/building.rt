@@ -92,7 +92,7 @@ pub(crate) fn build_part(alloc: Global, part: Part, index: usize, values: &mut S
         Part::AfterMem(context) => paths::build_after_mem(context, index, values),
         Part::AfterStd(context) => paths::build_after_std(context, index, values),
         Part::NameMore(context) => paths::build_name_more(context, index, values),
-        Part::Applied(context) => paths::build_applied(alloc, context, index, values),
+        Part::Applied(context) => paths::build_applied(context, index, values),
         Part::AfterColons(context) => paths::build_after_colons(alloc, context, index, values),
         Part::AfterMemColons(context) => paths::build_after_mem_colons(alloc, context, index, values),
         Part::AfterStdColons(context) => paths::build_after_std_colons(alloc, context, index, values),

@@ -1,5 +1,6 @@
 -- The stack of the values of symbols, the newest first, and what a production builds of them.
 use Rattle.std.specs.Prelude.{◌≡◌, ℕ, List, ◌∷◌}
+use Rattle.aen_base.specs.declared.span.Span.{Span}
 use Rattle.table_reader.specs.declared.item.Item.{Item}
 use Rattle.table_reader.specs.declared.item.Item.TheVariants as I
 use Rattle.table_reader.specs.Building as table
@@ -18,6 +19,12 @@ pub record HasToken (stack : Stack) : Type 0 where
   pub value : Lexeme
   pub below : Stack
   pub is : stack ≡ I.Token value ∷ below
+
+-- the newest value is a lexeme that stands there, and this is below
+pub record HasMark (stack : Stack) (span : Span) (below : Stack) : Type 0 where
+  pub lexeme : Lexeme
+  pub is : stack ≡ I.Token lexeme ∷ below
+  pub stands : span ≡ lexeme.span
 
 -- the newest value is that of a part
 pub record HasPart (stack : Stack) : Type 0 where

@@ -3,7 +3,7 @@
 ghost use Rattle.std.specs.Prelude.{◌≡◌, ◌∷◌, reverse};
 ghost use Rattle.table_reader.specs.declared.item.Item.TheVariants as I;
 ghost use Rattle.source_values.specs.declared.value.Value.TheVariants as V;
-ghost use Rattle.source_values.specs.Stacked.{HasToken, HasPart, Has, Is};
+ghost use Rattle.source_values.specs.Stacked.{HasToken, HasMark, HasPart, Has, Is};
 
 use aen_base::{IntTy, Name, Span};
 use crate::value::{Stack, Value};
@@ -37,6 +37,15 @@ pub(crate) fn take_token(values: &mut Stack) -> Lexeme
             unreachable!()
         }
     }
+}
+
+/// Takes a lexeme off of which only its place counts.
+pub(crate) fn take_mark(values: &mut Stack) -> Span
+    requires { HasToken (reverse values.old) }
+    ensures { HasMark (reverse values.old) result (reverse values.new) }
+{
+    let lexeme = take_token(values);
+    lexeme.span
 }
 
 /// Drops a value: in one place, since what drops each variant is long.

@@ -102,13 +102,13 @@ pub(crate) fn build_applied_condition(index: usize, values: &mut Stack) -> Resul
     }
 }
 
-pub(crate) fn build_applied(alloc: Global, context: Context, index: usize, values: &mut Stack) -> Result<Value, NoMem>
+pub(crate) fn build_applied(context: Context, index: usize, values: &mut Stack) -> Result<Value, NoMem>
     requires { CanBuild (N.Applied context) index (reverse values.old) }
     ensures { IfOk result (λ it. IsBuilt (N.Applied context) index (reverse values.old) it (reverse values.new)) }
 {
     match context {
-        Context::Free => build_applied_free(alloc, index, values),
-        Context::Condition => build_applied_condition(alloc, index, values),
+        Context::Free => build_applied_free(index, values),
+        Context::Condition => build_applied_condition(index, values),
     }
 }
 

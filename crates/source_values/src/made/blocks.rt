@@ -5,7 +5,7 @@ ghost use Rattle.source_grammar.specs.declared.part.Part.TheVariants as N;
 ghost use Rattle.source_values.specs.Stacked.{CanBuild, IsBuilt};
 
 use aen_base::NoMem;
-use crate::taking::{take_arm_body, take_arms, take_block, take_body, take_conditional, take_expr, take_maybe_body, take_maybe_expr, take_maybe_written, take_pat, take_token};
+use crate::taking::{take_arm_body, take_arms, take_block, take_body, take_conditional, take_expr, take_mark, take_maybe_body, take_maybe_expr, take_maybe_written, take_pat, take_token};
 use crate::value::{Stack, Value};
 use source_ways::blocks;
 use source_ways::front_list::FrontList;
@@ -52,8 +52,8 @@ pub fn more_statements_0(values: &mut Stack) -> Value
     ensures { IsBuilt N.MoreStatements 0 (reverse values.old) result (reverse values.new) }
 {
     let body = take_body(values);
-    let mark = take_token(values);
-    let extent = join(Some(mark.span), join(body.extent, None));
+    let mark = take_mark(values);
+    let extent = join(Some(mark), join(body.extent, None));
     Value::Body(Spanned { value: body.value, extent })
 }
 
@@ -102,8 +102,8 @@ pub fn after_block_like_0(values: &mut Stack) -> Value
     requires { CanBuild N.AfterBlockLike 0 (reverse values.old) }
     ensures { IsBuilt N.AfterBlockLike 0 (reverse values.old) result (reverse values.new) }
 {
-    let mark = take_token(values);
-    let extent = join(Some(mark.span), None);
+    let mark = take_mark(values);
+    let extent = join(Some(mark), None);
     let value = None;
     Value::MaybeBody(Spanned { value, extent })
 }
@@ -125,8 +125,8 @@ pub fn after_expression_1(values: &mut Stack) -> Value
     ensures { IsBuilt N.AfterExpression 1 (reverse values.old) result (reverse values.new) }
 {
     let body = take_body(values);
-    let mark = take_token(values);
-    let extent = join(Some(mark.span), join(body.extent, None));
+    let mark = take_mark(values);
+    let extent = join(Some(mark), join(body.extent, None));
     let value = Some(body.value);
     Value::MaybeBody(Spanned { value, extent })
 }
@@ -147,8 +147,8 @@ pub fn let_value_1(values: &mut Stack) -> Value
     ensures { IsBuilt N.LetValue 1 (reverse values.old) result (reverse values.new) }
 {
     let value = take_expr(values);
-    let mark = take_token(values);
-    let extent = join(Some(mark.span), join(value.extent, None));
+    let mark = take_mark(values);
+    let extent = join(Some(mark), join(value.extent, None));
     let value = Some(value.value);
     Value::MaybeExpr(Spanned { value, extent })
 }
@@ -231,10 +231,10 @@ pub fn after_while_1(values: &mut Stack) -> Value
 {
     let body = take_block(values);
     let e = take_expr(values);
-    let second_mark = take_token(values);
+    let second_mark = take_mark(values);
     let pat = take_pat(values);
-    let mark = take_token(values);
-    let extent = join(Some(mark.span), join(pat.extent, join(Some(second_mark.span), join(e.extent, join(body.extent, None)))));
+    let mark = take_mark(values);
+    let extent = join(Some(mark), join(pat.extent, join(Some(second_mark), join(e.extent, join(body.extent, None)))));
     let value = blocks::matches(pat, e, body, None);
     Value::Conditional(Spanned { value, extent })
 }
@@ -272,10 +272,10 @@ pub fn after_if_1(values: &mut Stack) -> Value
     let other = take_maybe_expr(values);
     let body = take_block(values);
     let e = take_expr(values);
-    let second_mark = take_token(values);
+    let second_mark = take_mark(values);
     let pat = take_pat(values);
-    let mark = take_token(values);
-    let extent = join(Some(mark.span), join(pat.extent, join(Some(second_mark.span), join(e.extent, join(body.extent, join(other.extent, None))))));
+    let mark = take_mark(values);
+    let extent = join(Some(mark), join(pat.extent, join(Some(second_mark), join(e.extent, join(body.extent, join(other.extent, None))))));
     let value = blocks::matches(pat, e, body, other.value);
     Value::Conditional(Spanned { value, extent })
 }
@@ -285,8 +285,8 @@ pub fn arms_0(alloc: Global, values: &mut Stack) -> Value
     requires { CanBuild N.Arms 0 (reverse values.old) }
     ensures { IsBuilt N.Arms 0 (reverse values.old) result (reverse values.new) }
 {
-    let mark = take_token(values);
-    let extent = join(Some(mark.span), None);
+    let mark = take_mark(values);
+    let extent = join(Some(mark), None);
     let value = FrontList::new(alloc);
     Value::Arms(Spanned { value, extent })
 }
@@ -322,7 +322,7 @@ pub fn after_block_arm_0(values: &mut Stack) -> Value
     ensures { IsBuilt N.AfterBlockArm 0 (reverse values.old) result (reverse values.new) }
 {
     let arms = take_arms(values);
-    let mark = take_token(values);
-    let extent = join(Some(mark.span), join(arms.extent, None));
+    let mark = take_mark(values);
+    let extent = join(Some(mark), join(arms.extent, None));
     Value::Arms(Spanned { value: arms.value, extent })
 }

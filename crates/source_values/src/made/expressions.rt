@@ -7,7 +7,7 @@ ghost use Rattle.source_grammar.specs.declared.part.Context.TheVariants as At;
 ghost use Rattle.source_grammar.specs.declared.part.Level.TheVariants as L;
 
 use aen_base::NoMem;
-use crate::taking::{take_after, take_borrowed, take_calling, take_casts, take_expr, take_exprs, take_ident, take_idents, take_maybe_expr, take_operations, take_token};
+use crate::taking::{take_after, take_borrowed, take_calling, take_casts, take_expr, take_exprs, take_ident, take_idents, take_mark, take_maybe_expr, take_operations, take_token};
 use crate::value::{Stack, Value};
 use rust_ast::source::{Expr, ExprNode};
 use source_ways::expressions;
@@ -48,8 +48,8 @@ pub fn leading_expression_2(values: &mut Stack) -> Value
     requires { CanBuild N.LeadingExpression 2 (reverse values.old) }
     ensures { IsBuilt N.LeadingExpression 2 (reverse values.old) result (reverse values.new) }
 {
-    let mark = take_token(values);
-    let extent = join(Some(mark.span), None);
+    let mark = take_mark(values);
+    let extent = join(Some(mark), None);
     let value = Expr { node: ExprNode::GoOn(span_of(extent)) };
     Value::Expr(Spanned { value, extent })
 }
@@ -179,8 +179,8 @@ pub fn postfix_1(values: &mut Stack) -> Result<Value, NoMem>
 {
     let more = take_idents(values);
     let name = take_ident(values);
-    let mark = take_token(values);
-    let extent = join(Some(mark.span), join(name.extent, join(more.extent, None)));
+    let mark = take_mark(values);
+    let extent = join(Some(mark), join(name.extent, join(more.extent, None)));
     let value = more.value.push(name.value)?;
     Ok(Value::Idents(Spanned { value, extent }))
 }
@@ -201,8 +201,8 @@ pub fn after_open_0(alloc: Global, values: &mut Stack) -> Value
     requires { CanBuild N.AfterOpen 0 (reverse values.old) }
     ensures { IsBuilt N.AfterOpen 0 (reverse values.old) result (reverse values.new) }
 {
-    let mark = take_token(values);
-    let extent = join(Some(mark.span), None);
+    let mark = take_mark(values);
+    let extent = join(Some(mark), None);
     let value = FrontList::new(alloc);
     Value::Exprs(Spanned { value, extent })
 }
@@ -226,8 +226,8 @@ pub fn after_first_1(values: &mut Stack) -> Result<Value, NoMem>
 {
     let more = take_exprs(values);
     let e = take_expr(values);
-    let mark = take_token(values);
-    let extent = join(Some(mark.span), join(e.extent, join(more.extent, None)));
+    let mark = take_mark(values);
+    let extent = join(Some(mark), join(e.extent, join(more.extent, None)));
     let value = more.value.push(e.value)?;
     Ok(Value::Exprs(Spanned { value, extent }))
 }
@@ -309,8 +309,8 @@ pub fn borrowed_free_0(values: &mut Stack) -> Value
     ensures { IsBuilt (N.Borrowed At.Free) 0 (reverse values.old) result (reverse values.new) }
 {
     let e = take_expr(values);
-    let mark = take_token(values);
-    let extent = join(Some(mark.span), join(e.extent, None));
+    let mark = take_mark(values);
+    let extent = join(Some(mark), join(e.extent, None));
     let value = operators::borrowed(true, e);
     Value::Borrowed(Spanned { value, extent })
 }

@@ -5,7 +5,7 @@ ghost use Rattle.source_grammar.specs.declared.part.Part.TheVariants as N;
 ghost use Rattle.source_values.specs.Stacked.{CanBuild, IsBuilt};
 
 use aen_base::NoMem;
-use crate::taking::{take_block, take_fields, take_generics, take_idents, take_item, take_items, take_maybe_written, take_named_fields, take_nothing, take_params, take_token, take_variants, take_written, take_writtens};
+use crate::taking::{take_block, take_fields, take_generics, take_idents, take_item, take_items, take_mark, take_maybe_written, take_named_fields, take_nothing, take_params, take_token, take_variants, take_written, take_writtens};
 use crate::value::{Stack, Value};
 use source_ways::front_list::FrontList;
 use source_ways::items;
@@ -29,8 +29,8 @@ pub fn program_1(values: &mut Stack) -> Value
     ensures { IsBuilt N.Program 1 (reverse values.old) result (reverse values.new) }
 {
     let items = take_items(values);
-    let mark = take_token(values);
-    let extent = join(Some(mark.span), join(items.extent, None));
+    let mark = take_mark(values);
+    let extent = join(Some(mark), join(items.extent, None));
     Value::Items(Spanned { value: items.value, extent })
 }
 
@@ -52,13 +52,13 @@ pub fn after_hash_0(values: &mut Stack) -> Value
     ensures { IsBuilt N.AfterHash 0 (reverse values.old) result (reverse values.new) }
 {
     let items = take_items(values);
-    let fifth_mark = take_token(values);
+    let fifth_mark = take_mark(values);
     let idents = take_idents(values);
-    let fourth_mark = take_token(values);
-    let third_mark = take_token(values);
-    let second_mark = take_token(values);
-    let mark = take_token(values);
-    let extent = join(Some(mark.span), join(Some(second_mark.span), join(Some(third_mark.span), join(Some(fourth_mark.span), join(idents.extent, join(Some(fifth_mark.span), join(items.extent, None)))))));
+    let fourth_mark = take_mark(values);
+    let third_mark = take_mark(values);
+    let second_mark = take_mark(values);
+    let mark = take_mark(values);
+    let extent = join(Some(mark), join(Some(second_mark), join(Some(third_mark), join(Some(fourth_mark), join(idents.extent, join(Some(fifth_mark), join(items.extent, None)))))));
     Value::Items(Spanned { value: items.value, extent })
 }
 
@@ -83,8 +83,8 @@ pub fn items_1(values: &mut Stack) -> Result<Value, NoMem>
     let items = take_items(values);
     let item = take_item(values);
     let nothing = take_nothing(values);
-    let mark = take_token(values);
-    let extent = join(Some(mark.span), join(nothing.extent, join(item.extent, join(items.extent, None))));
+    let mark = take_mark(values);
+    let extent = join(Some(mark), join(nothing.extent, join(item.extent, join(items.extent, None))));
     let value = items.value.push(item.value)?;
     Ok(Value::Items(Spanned { value, extent }))
 }
@@ -94,12 +94,12 @@ pub fn attribute_0(values: &mut Stack) -> Value
     requires { CanBuild N.Attribute 0 (reverse values.old) }
     ensures { IsBuilt N.Attribute 0 (reverse values.old) result (reverse values.new) }
 {
-    let fourth_mark = take_token(values);
+    let fourth_mark = take_mark(values);
     let idents = take_idents(values);
-    let third_mark = take_token(values);
-    let second_mark = take_token(values);
-    let mark = take_token(values);
-    let extent = join(Some(mark.span), join(Some(second_mark.span), join(Some(third_mark.span), join(idents.extent, join(Some(fourth_mark.span), None)))));
+    let third_mark = take_mark(values);
+    let second_mark = take_mark(values);
+    let mark = take_mark(values);
+    let extent = join(Some(mark), join(Some(second_mark), join(Some(third_mark), join(idents.extent, join(Some(fourth_mark), None)))));
     let value = ();
     Value::Nothing(Spanned { value, extent })
 }
@@ -111,8 +111,8 @@ pub fn attributed_0(values: &mut Stack) -> Value
 {
     let item = take_item(values);
     let nothing = take_nothing(values);
-    let mark = take_token(values);
-    let extent = join(Some(mark.span), join(nothing.extent, join(item.extent, None)));
+    let mark = take_mark(values);
+    let extent = join(Some(mark), join(nothing.extent, join(item.extent, None)));
     Value::Item(Spanned { value: item.value, extent })
 }
 
@@ -122,8 +122,8 @@ pub fn attributed_1(values: &mut Stack) -> Value
     ensures { IsBuilt N.Attributed 1 (reverse values.old) result (reverse values.new) }
 {
     let item = take_item(values);
-    let mark = take_token(values);
-    let extent = join(Some(mark.span), join(item.extent, None));
+    let mark = take_mark(values);
+    let extent = join(Some(mark), join(item.extent, None));
     Value::Item(Spanned { value: item.value, extent })
 }
 
@@ -142,12 +142,12 @@ pub fn item_2(values: &mut Stack) -> Value
     requires { CanBuild N.Item 2 (reverse values.old) }
     ensures { IsBuilt N.Item 2 (reverse values.old) result (reverse values.new) }
 {
-    let fifth_mark = take_token(values);
-    let fourth_mark = take_token(values);
-    let third_mark = take_token(values);
-    let second_mark = take_token(values);
-    let mark = take_token(values);
-    let extent = join(Some(mark.span), join(Some(second_mark.span), join(Some(third_mark.span), join(Some(fourth_mark.span), join(Some(fifth_mark.span), None)))));
+    let fifth_mark = take_mark(values);
+    let fourth_mark = take_mark(values);
+    let third_mark = take_mark(values);
+    let second_mark = take_mark(values);
+    let mark = take_mark(values);
+    let extent = join(Some(mark), join(Some(second_mark), join(Some(third_mark), join(Some(fourth_mark), join(Some(fifth_mark), None)))));
     let value = items::use_mem();
     Value::Item(Spanned { value, extent })
 }
@@ -214,8 +214,8 @@ pub fn generics_1(values: &mut Stack) -> Value
     ensures { IsBuilt N.Generics 1 (reverse values.old) result (reverse values.new) }
 {
     let generics = take_generics(values);
-    let mark = take_token(values);
-    let extent = join(Some(mark.span), join(generics.extent, None));
+    let mark = take_mark(values);
+    let extent = join(Some(mark), join(generics.extent, None));
     Value::Generics(Spanned { value: generics.value, extent })
 }
 
@@ -224,8 +224,8 @@ pub fn lifetimes_0(alloc: Global, values: &mut Stack) -> Value
     requires { CanBuild N.Lifetimes 0 (reverse values.old) }
     ensures { IsBuilt N.Lifetimes 0 (reverse values.old) result (reverse values.new) }
 {
-    let mark = take_token(values);
-    let extent = join(Some(mark.span), None);
+    let mark = take_mark(values);
+    let extent = join(Some(mark), None);
     let value = items::no_generics(alloc);
     Value::Generics(Spanned { value, extent })
 }
@@ -270,8 +270,8 @@ pub fn type_parameters_1(values: &mut Stack) -> Value
     ensures { IsBuilt N.TypeParameters 1 (reverse values.old) result (reverse values.new) }
 {
     let names = take_idents(values);
-    let mark = take_token(values);
-    let extent = join(Some(mark.span), join(names.extent, None));
+    let mark = take_mark(values);
+    let extent = join(Some(mark), join(names.extent, None));
     Value::Idents(Spanned { value: names.value, extent })
 }
 
@@ -281,10 +281,10 @@ pub fn parameter_0(alloc: Global, values: &mut Stack) -> Result<Value, NoMem>
     ensures { IfOk result (λ it. IsBuilt N.Parameter 0 (reverse values.old) it (reverse values.new)) }
 {
     let ty = take_written(values);
-    let second_mark = take_token(values);
+    let second_mark = take_mark(values);
     let name = take_token(values);
-    let mark = take_token(values);
-    let extent = join(Some(mark.span), join(Some(name.span), join(Some(second_mark.span), join(ty.extent, None))));
+    let mark = take_mark(values);
+    let extent = join(Some(mark), join(Some(name.span), join(Some(second_mark), join(ty.extent, None))));
     let value = items::parameter(alloc, true, name, ty)?;
     Ok(Value::Param(Spanned { value, extent }))
 }
@@ -295,9 +295,9 @@ pub fn parameter_1(alloc: Global, values: &mut Stack) -> Result<Value, NoMem>
     ensures { IfOk result (λ it. IsBuilt N.Parameter 1 (reverse values.old) it (reverse values.new)) }
 {
     let ty = take_written(values);
-    let mark = take_token(values);
+    let mark = take_mark(values);
     let name = take_token(values);
-    let extent = join(Some(name.span), join(Some(mark.span), join(ty.extent, None)));
+    let extent = join(Some(name.span), join(Some(mark), join(ty.extent, None)));
     let value = items::parameter(alloc, false, name, ty)?;
     Ok(Value::Param(Spanned { value, extent }))
 }
@@ -318,8 +318,8 @@ pub fn result_1(values: &mut Stack) -> Value
     ensures { IsBuilt N.Result 1 (reverse values.old) result (reverse values.new) }
 {
     let ty = take_written(values);
-    let mark = take_token(values);
-    let extent = join(Some(mark.span), join(ty.extent, None));
+    let mark = take_mark(values);
+    let extent = join(Some(mark), join(ty.extent, None));
     let value = Some(ty.value);
     Value::MaybeWritten(Spanned { value, extent })
 }
@@ -354,8 +354,8 @@ pub fn struct_body_2(alloc: Global, values: &mut Stack) -> Value
     requires { CanBuild N.StructBody 2 (reverse values.old) }
     ensures { IsBuilt N.StructBody 2 (reverse values.old) result (reverse values.new) }
 {
-    let mark = take_token(values);
-    let extent = join(Some(mark.span), None);
+    let mark = take_mark(values);
+    let extent = join(Some(mark), None);
     let value = items::no_fields(alloc);
     Value::Fields(Spanned { value, extent })
 }
@@ -366,10 +366,10 @@ pub fn field_0(alloc: Global, values: &mut Stack) -> Result<Value, NoMem>
     ensures { IfOk result (λ it. IsBuilt N.Field 0 (reverse values.old) it (reverse values.new)) }
 {
     let ty = take_written(values);
-    let second_mark = take_token(values);
+    let second_mark = take_mark(values);
     let name = take_token(values);
-    let mark = take_token(values);
-    let extent = join(Some(mark.span), join(Some(name.span), join(Some(second_mark.span), join(ty.extent, None))));
+    let mark = take_mark(values);
+    let extent = join(Some(mark), join(Some(name.span), join(Some(second_mark), join(ty.extent, None))));
     let value = items::field(alloc, name, ty)?;
     Ok(Value::Field(Spanned { value, extent }))
 }
@@ -380,9 +380,9 @@ pub fn field_1(alloc: Global, values: &mut Stack) -> Result<Value, NoMem>
     ensures { IfOk result (λ it. IsBuilt N.Field 1 (reverse values.old) it (reverse values.new)) }
 {
     let ty = take_written(values);
-    let mark = take_token(values);
+    let mark = take_mark(values);
     let name = take_token(values);
-    let extent = join(Some(name.span), join(Some(mark.span), join(ty.extent, None)));
+    let extent = join(Some(name.span), join(Some(mark), join(ty.extent, None)));
     let value = items::field(alloc, name, ty)?;
     Ok(Value::Field(Spanned { value, extent }))
 }
@@ -393,8 +393,8 @@ pub fn tuple_field_0(values: &mut Stack) -> Value
     ensures { IsBuilt N.TupleField 0 (reverse values.old) result (reverse values.new) }
 {
     let ty = take_written(values);
-    let mark = take_token(values);
-    let extent = join(Some(mark.span), join(ty.extent, None));
+    let mark = take_mark(values);
+    let extent = join(Some(mark), join(ty.extent, None));
     Value::Written(Spanned { value: ty.value, extent })
 }
 
@@ -436,7 +436,7 @@ pub fn variant_body_1(values: &mut Stack) -> Value
     ensures { IsBuilt N.VariantBody 1 (reverse values.old) result (reverse values.new) }
 {
     let tys = take_writtens(values);
-    let mark = take_token(values);
-    let extent = join(Some(mark.span), join(tys.extent, None));
+    let mark = take_mark(values);
+    let extent = join(Some(mark), join(tys.extent, None));
     Value::Writtens(Spanned { value: tys.value, extent })
 }

@@ -6,7 +6,7 @@ ghost use Rattle.source_values.specs.Stacked.{CanBuild, IsBuilt};
 ghost use Rattle.source_grammar.specs.declared.part.Listed.TheVariants as Of;
 
 use aen_base::NoMem;
-use crate::taking::{take_exprs, take_field, take_field_pat, take_field_pats, take_idents, take_initial, take_initials, take_named_fields, take_param, take_params, take_pats, take_token, take_variant, take_variants};
+use crate::taking::{take_exprs, take_field, take_field_pat, take_field_pats, take_idents, take_initial, take_initials, take_mark, take_named_fields, take_param, take_params, take_pats, take_token, take_variant, take_variants};
 use crate::value::{Stack, Value};
 use source_ways::front_list::FrontList;
 use source_ways::says::ident;
@@ -19,8 +19,8 @@ pub fn list_names_0(alloc: Global, values: &mut Stack) -> Value
     requires { CanBuild (N.List Of.Names) 0 (reverse values.old) }
     ensures { IsBuilt (N.List Of.Names) 0 (reverse values.old) result (reverse values.new) }
 {
-    let mark = take_token(values);
-    let extent = join(Some(mark.span), None);
+    let mark = take_mark(values);
+    let extent = join(Some(mark), None);
     let value = FrontList::new(alloc);
     Value::Idents(Spanned { value, extent })
 }
@@ -42,8 +42,8 @@ pub fn list_parameters_0(alloc: Global, values: &mut Stack) -> Value
     requires { CanBuild (N.List Of.Parameters) 0 (reverse values.old) }
     ensures { IsBuilt (N.List Of.Parameters) 0 (reverse values.old) result (reverse values.new) }
 {
-    let mark = take_token(values);
-    let extent = join(Some(mark.span), None);
+    let mark = take_mark(values);
+    let extent = join(Some(mark), None);
     let value = FrontList::new(alloc);
     Value::Params(Spanned { value, extent })
 }
@@ -65,8 +65,8 @@ pub fn list_fields_0(alloc: Global, values: &mut Stack) -> Value
     requires { CanBuild (N.List Of.Fields) 0 (reverse values.old) }
     ensures { IsBuilt (N.List Of.Fields) 0 (reverse values.old) result (reverse values.new) }
 {
-    let mark = take_token(values);
-    let extent = join(Some(mark.span), None);
+    let mark = take_mark(values);
+    let extent = join(Some(mark), None);
     let value = FrontList::new(alloc);
     Value::NamedFields(Spanned { value, extent })
 }
@@ -88,8 +88,8 @@ pub fn list_variants_0(alloc: Global, values: &mut Stack) -> Value
     requires { CanBuild (N.List Of.Variants) 0 (reverse values.old) }
     ensures { IsBuilt (N.List Of.Variants) 0 (reverse values.old) result (reverse values.new) }
 {
-    let mark = take_token(values);
-    let extent = join(Some(mark.span), None);
+    let mark = take_mark(values);
+    let extent = join(Some(mark), None);
     let value = FrontList::new(alloc);
     Value::Variants(Spanned { value, extent })
 }
@@ -111,8 +111,8 @@ pub fn list_initials_0(alloc: Global, values: &mut Stack) -> Value
     requires { CanBuild (N.List Of.Initials) 0 (reverse values.old) }
     ensures { IsBuilt (N.List Of.Initials) 0 (reverse values.old) result (reverse values.new) }
 {
-    let mark = take_token(values);
-    let extent = join(Some(mark.span), None);
+    let mark = take_mark(values);
+    let extent = join(Some(mark), None);
     let value = FrontList::new(alloc);
     Value::Initials(Spanned { value, extent })
 }
@@ -134,8 +134,8 @@ pub fn list_field_patterns_0(alloc: Global, values: &mut Stack) -> Value
     requires { CanBuild (N.List Of.FieldPatterns) 0 (reverse values.old) }
     ensures { IsBuilt (N.List Of.FieldPatterns) 0 (reverse values.old) result (reverse values.new) }
 {
-    let mark = take_token(values);
-    let extent = join(Some(mark.span), None);
+    let mark = take_mark(values);
+    let extent = join(Some(mark), None);
     let value = FrontList::new(alloc);
     Value::FieldPats(Spanned { value, extent })
 }
@@ -158,8 +158,8 @@ pub fn list_rest_parameters_1(values: &mut Stack) -> Value
     ensures { IsBuilt (N.ListRest Of.Parameters) 1 (reverse values.old) result (reverse values.new) }
 {
     let more = take_params(values);
-    let mark = take_token(values);
-    let extent = join(Some(mark.span), join(more.extent, None));
+    let mark = take_mark(values);
+    let extent = join(Some(mark), join(more.extent, None));
     Value::Params(Spanned { value: more.value, extent })
 }
 
@@ -169,8 +169,8 @@ pub fn list_rest_fields_1(values: &mut Stack) -> Value
     ensures { IsBuilt (N.ListRest Of.Fields) 1 (reverse values.old) result (reverse values.new) }
 {
     let more = take_named_fields(values);
-    let mark = take_token(values);
-    let extent = join(Some(mark.span), join(more.extent, None));
+    let mark = take_mark(values);
+    let extent = join(Some(mark), join(more.extent, None));
     Value::NamedFields(Spanned { value: more.value, extent })
 }
 
@@ -180,8 +180,8 @@ pub fn list_rest_variants_1(values: &mut Stack) -> Value
     ensures { IsBuilt (N.ListRest Of.Variants) 1 (reverse values.old) result (reverse values.new) }
 {
     let more = take_variants(values);
-    let mark = take_token(values);
-    let extent = join(Some(mark.span), join(more.extent, None));
+    let mark = take_mark(values);
+    let extent = join(Some(mark), join(more.extent, None));
     Value::Variants(Spanned { value: more.value, extent })
 }
 
@@ -191,8 +191,8 @@ pub fn list_rest_arguments_1(values: &mut Stack) -> Value
     ensures { IsBuilt (N.ListRest Of.Arguments) 1 (reverse values.old) result (reverse values.new) }
 {
     let more = take_exprs(values);
-    let mark = take_token(values);
-    let extent = join(Some(mark.span), join(more.extent, None));
+    let mark = take_mark(values);
+    let extent = join(Some(mark), join(more.extent, None));
     Value::Exprs(Spanned { value: more.value, extent })
 }
 
@@ -202,8 +202,8 @@ pub fn list_rest_initials_1(values: &mut Stack) -> Value
     ensures { IsBuilt (N.ListRest Of.Initials) 1 (reverse values.old) result (reverse values.new) }
 {
     let more = take_initials(values);
-    let mark = take_token(values);
-    let extent = join(Some(mark.span), join(more.extent, None));
+    let mark = take_mark(values);
+    let extent = join(Some(mark), join(more.extent, None));
     Value::Initials(Spanned { value: more.value, extent })
 }
 
@@ -213,8 +213,8 @@ pub fn list_rest_patterns_1(values: &mut Stack) -> Value
     ensures { IsBuilt (N.ListRest Of.Patterns) 1 (reverse values.old) result (reverse values.new) }
 {
     let more = take_pats(values);
-    let mark = take_token(values);
-    let extent = join(Some(mark.span), join(more.extent, None));
+    let mark = take_mark(values);
+    let extent = join(Some(mark), join(more.extent, None));
     Value::Pats(Spanned { value: more.value, extent })
 }
 
@@ -224,7 +224,7 @@ pub fn list_rest_field_patterns_1(values: &mut Stack) -> Value
     ensures { IsBuilt (N.ListRest Of.FieldPatterns) 1 (reverse values.old) result (reverse values.new) }
 {
     let more = take_field_pats(values);
-    let mark = take_token(values);
-    let extent = join(Some(mark.span), join(more.extent, None));
+    let mark = take_mark(values);
+    let extent = join(Some(mark), join(more.extent, None));
     Value::FieldPats(Spanned { value: more.value, extent })
 }

@@ -6,7 +6,7 @@ ghost use Rattle.source_values.specs.Stacked.{CanBuild, IsBuilt};
 ghost use Rattle.source_grammar.specs.declared.part.Context.TheVariants as At;
 
 use aen_base::NoMem;
-use crate::taking::{take_after, take_calling, take_expr, take_exprs, take_further, take_in_mem, take_initials, take_nothing, take_token, take_writtens};
+use crate::taking::{take_after, take_calling, take_expr, take_exprs, take_further, take_in_mem, take_initials, take_mark, take_nothing, take_token, take_writtens};
 use crate::value::{Stack, Value};
 use source_ways::path_ways;
 use source_ways::paths::InMem;
@@ -42,8 +42,8 @@ pub fn after_std_mem_2(values: &mut Stack) -> Value
     ensures { IsBuilt N.AfterStdMem 2 (reverse values.old) result (reverse values.new) }
 {
     let rest = take_in_mem(values);
-    let mark = take_token(values);
-    let extent = join(Some(mark.span), join(rest.extent, None));
+    let mark = take_mark(values);
+    let extent = join(Some(mark), join(rest.extent, None));
     Value::InMem(Spanned { value: rest.value, extent })
 }
 
@@ -53,10 +53,10 @@ pub fn after_std_mem_colons_0(values: &mut Stack) -> Value
     ensures { IsBuilt N.AfterStdMemColons 0 (reverse values.old) result (reverse values.new) }
 {
     let exprs = take_exprs(values);
-    let second_mark = take_token(values);
+    let second_mark = take_mark(values);
     let tys = take_writtens(values);
-    let mark = take_token(values);
-    let extent = join(Some(mark.span), join(tys.extent, join(Some(second_mark.span), join(exprs.extent, None))));
+    let mark = take_mark(values);
+    let extent = join(Some(mark), join(tys.extent, join(Some(second_mark), join(exprs.extent, None))));
     let value = InMem::Second(path_ways::call_with_types(tys, exprs));
     Value::InMem(Spanned { value, extent })
 }
@@ -101,11 +101,11 @@ pub fn after_path_2(values: &mut Stack) -> Value
     ensures { IsBuilt N.AfterPath 2 (reverse values.old) result (reverse values.new) }
 {
     let exprs = take_exprs(values);
-    let third_mark = take_token(values);
+    let third_mark = take_mark(values);
     let tys = take_writtens(values);
-    let second_mark = take_token(values);
-    let mark = take_token(values);
-    let extent = join(Some(mark.span), join(Some(second_mark.span), join(tys.extent, join(Some(third_mark.span), join(exprs.extent, None)))));
+    let second_mark = take_mark(values);
+    let mark = take_mark(values);
+    let extent = join(Some(mark), join(Some(second_mark), join(tys.extent, join(Some(third_mark), join(exprs.extent, None)))));
     let value = path_ways::call_with_types(tys, exprs);
     Value::Calling(Spanned { value, extent })
 }
@@ -115,8 +115,8 @@ pub fn message_0(values: &mut Stack) -> Value
     requires { CanBuild N.Message 0 (reverse values.old) }
     ensures { IsBuilt N.Message 0 (reverse values.old) result (reverse values.new) }
 {
-    let mark = take_token(values);
-    let extent = join(Some(mark.span), None);
+    let mark = take_mark(values);
+    let extent = join(Some(mark), None);
     let value = ();
     Value::Nothing(Spanned { value, extent })
 }
@@ -126,9 +126,9 @@ pub fn message_1(values: &mut Stack) -> Value
     requires { CanBuild N.Message 1 (reverse values.old) }
     ensures { IsBuilt N.Message 1 (reverse values.old) result (reverse values.new) }
 {
-    let second_mark = take_token(values);
-    let mark = take_token(values);
-    let extent = join(Some(mark.span), join(Some(second_mark.span), None));
+    let second_mark = take_mark(values);
+    let mark = take_mark(values);
+    let extent = join(Some(mark), join(Some(second_mark), None));
     let value = ();
     Value::Nothing(Spanned { value, extent })
 }
@@ -139,8 +139,8 @@ pub fn assert_end_1(values: &mut Stack) -> Value
     ensures { IsBuilt N.AssertEnd 1 (reverse values.old) result (reverse values.new) }
 {
     let nothing = take_nothing(values);
-    let mark = take_token(values);
-    let extent = join(Some(mark.span), join(nothing.extent, None));
+    let mark = take_mark(values);
+    let extent = join(Some(mark), join(nothing.extent, None));
     let value = ();
     Value::Nothing(Spanned { value, extent })
 }
@@ -171,9 +171,9 @@ pub fn after_panic_free_2(values: &mut Stack) -> Value
     ensures { IsBuilt (N.AfterPanic At.Free) 2 (reverse values.old) result (reverse values.new) }
 {
     let nothing = take_nothing(values);
-    let second_mark = take_token(values);
-    let mark = take_token(values);
-    let extent = join(Some(mark.span), join(Some(second_mark.span), join(nothing.extent, None)));
+    let second_mark = take_mark(values);
+    let mark = take_mark(values);
+    let extent = join(Some(mark), join(Some(second_mark), join(nothing.extent, None)));
     let value = path_ways::panics();
     Value::After(Spanned { value, extent })
 }
@@ -209,8 +209,8 @@ pub fn after_mem_free_2(values: &mut Stack) -> Value
     ensures { IsBuilt (N.AfterMem At.Free) 2 (reverse values.old) result (reverse values.new) }
 {
     let rest = take_after(values);
-    let mark = take_token(values);
-    let extent = join(Some(mark.span), join(rest.extent, None));
+    let mark = take_mark(values);
+    let extent = join(Some(mark), join(rest.extent, None));
     Value::After(Spanned { value: rest.value, extent })
 }
 

@@ -5,7 +5,7 @@ ghost use Rattle.source_grammar.specs.declared.part.Part.TheVariants as N;
 ghost use Rattle.source_values.specs.Stacked.{CanBuild, IsBuilt};
 
 use aen_base::NoMem;
-use crate::taking::{take_after_mem, take_after_name, take_field_pats, take_given, take_maybe_pat, take_pat, take_pats, take_token, take_writtens};
+use crate::taking::{take_after_mem, take_after_name, take_field_pats, take_given, take_mark, take_maybe_pat, take_pat, take_pats, take_token, take_writtens};
 use crate::value::{Stack, Value};
 use rust_ast::source_patterns::{Pat, PatNode};
 use source_ways::constructors::{AfterMem, AfterName, Given};
@@ -20,8 +20,8 @@ pub fn pattern_0(values: &mut Stack) -> Value
     requires { CanBuild N.Pattern 0 (reverse values.old) }
     ensures { IsBuilt N.Pattern 0 (reverse values.old) result (reverse values.new) }
 {
-    let mark = take_token(values);
-    let extent = join(Some(mark.span), None);
+    let mark = take_mark(values);
+    let extent = join(Some(mark), None);
     let value = Pat { node: PatNode::Wild(span_of(extent)) };
     Value::Pat(Spanned { value, extent })
 }
@@ -115,8 +115,8 @@ pub fn after_pattern_open_0(alloc: Global, values: &mut Stack) -> Value
     requires { CanBuild N.AfterPatternOpen 0 (reverse values.old) }
     ensures { IsBuilt N.AfterPatternOpen 0 (reverse values.old) result (reverse values.new) }
 {
-    let mark = take_token(values);
-    let extent = join(Some(mark.span), None);
+    let mark = take_mark(values);
+    let extent = join(Some(mark), None);
     let value = FrontList::new(alloc);
     Value::Pats(Spanned { value, extent })
 }
@@ -140,8 +140,8 @@ pub fn after_pattern_1(values: &mut Stack) -> Result<Value, NoMem>
 {
     let more = take_pats(values);
     let pat = take_pat(values);
-    let mark = take_token(values);
-    let extent = join(Some(mark.span), join(pat.extent, join(more.extent, None)));
+    let mark = take_mark(values);
+    let extent = join(Some(mark), join(pat.extent, join(more.extent, None)));
     let value = more.value.push(pat.value)?;
     Ok(Value::Pats(Spanned { value, extent }))
 }
@@ -174,8 +174,8 @@ pub fn field_pattern_value_1(values: &mut Stack) -> Value
     ensures { IsBuilt N.FieldPatternValue 1 (reverse values.old) result (reverse values.new) }
 {
     let pat = take_pat(values);
-    let mark = take_token(values);
-    let extent = join(Some(mark.span), join(pat.extent, None));
+    let mark = take_mark(values);
+    let extent = join(Some(mark), join(pat.extent, None));
     let value = Some(pat.value);
     Value::MaybePat(Spanned { value, extent })
 }
@@ -206,8 +206,8 @@ pub fn given_parts_0(values: &mut Stack) -> Value
     ensures { IsBuilt N.GivenParts 0 (reverse values.old) result (reverse values.new) }
 {
     let pats = take_pats(values);
-    let mark = take_token(values);
-    let extent = join(Some(mark.span), join(pats.extent, None));
+    let mark = take_mark(values);
+    let extent = join(Some(mark), join(pats.extent, None));
     let value = Given::Placed(pats.value);
     Value::Given(Spanned { value, extent })
 }
@@ -218,8 +218,8 @@ pub fn given_parts_1(values: &mut Stack) -> Value
     ensures { IsBuilt N.GivenParts 1 (reverse values.old) result (reverse values.new) }
 {
     let fields = take_field_pats(values);
-    let mark = take_token(values);
-    let extent = join(Some(mark.span), join(fields.extent, None));
+    let mark = take_mark(values);
+    let extent = join(Some(mark), join(fields.extent, None));
     let value = Given::Named(fields.value);
     Value::Given(Spanned { value, extent })
 }
@@ -251,8 +251,8 @@ pub fn after_pattern_name_2(values: &mut Stack) -> Value
     ensures { IsBuilt N.AfterPatternName 2 (reverse values.old) result (reverse values.new) }
 {
     let rest = take_after_name(values);
-    let mark = take_token(values);
-    let extent = join(Some(mark.span), join(rest.extent, None));
+    let mark = take_mark(values);
+    let extent = join(Some(mark), join(rest.extent, None));
     Value::AfterName(Spanned { value: rest.value, extent })
 }
 

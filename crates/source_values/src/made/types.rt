@@ -5,7 +5,7 @@ ghost use Rattle.source_grammar.specs.declared.part.Part.TheVariants as N;
 ghost use Rattle.source_values.specs.Stacked.{CanBuild, IsBuilt};
 
 use aen_base::NoMem;
-use crate::taking::{take_lifetime, take_token, take_truth, take_written, take_writtens};
+use crate::taking::{take_lifetime, take_mark, take_token, take_truth, take_written, take_writtens};
 use crate::value::{Stack, Value};
 use rust_ast::source_types::{Lifetime, LifetimeNode, Written, WrittenNode};
 use source_ways::front_list::FrontList;
@@ -31,8 +31,8 @@ pub fn type_1(values: &mut Stack) -> Value
     requires { CanBuild N.Type 1 (reverse values.old) }
     ensures { IsBuilt N.Type 1 (reverse values.old) result (reverse values.new) }
 {
-    let word = take_token(values);
-    let extent = join(Some(word.span), None);
+    let word = take_mark(values);
+    let extent = join(Some(word), None);
     let value = Written { node: WrittenNode::Bool(span_of(extent)) };
     Value::Written(Spanned { value, extent })
 }
@@ -125,8 +125,8 @@ pub fn borrow_mut_1(values: &mut Stack) -> Value
     requires { CanBuild N.BorrowMut 1 (reverse values.old) }
     ensures { IsBuilt N.BorrowMut 1 (reverse values.old) result (reverse values.new) }
 {
-    let mark = take_token(values);
-    let extent = join(Some(mark.span), None);
+    let mark = take_mark(values);
+    let extent = join(Some(mark), None);
     let value = true;
     Value::Truth(Spanned { value, extent })
 }
@@ -136,8 +136,8 @@ pub fn after_type_open_0(alloc: Global, values: &mut Stack) -> Value
     requires { CanBuild N.AfterTypeOpen 0 (reverse values.old) }
     ensures { IsBuilt N.AfterTypeOpen 0 (reverse values.old) result (reverse values.new) }
 {
-    let mark = take_token(values);
-    let extent = join(Some(mark.span), None);
+    let mark = take_mark(values);
+    let extent = join(Some(mark), None);
     let value = FrontList::new(alloc);
     Value::Writtens(Spanned { value, extent })
 }
@@ -161,8 +161,8 @@ pub fn after_type_1(values: &mut Stack) -> Result<Value, NoMem>
 {
     let more = take_writtens(values);
     let ty = take_written(values);
-    let mark = take_token(values);
-    let extent = join(Some(mark.span), join(ty.extent, join(more.extent, None)));
+    let mark = take_mark(values);
+    let extent = join(Some(mark), join(ty.extent, join(more.extent, None)));
     let value = more.value.push(ty.value)?;
     Ok(Value::Writtens(Spanned { value, extent }))
 }
