@@ -561,7 +561,8 @@ LEVELS = {"build_more": "no_more", "build_level": "level", "build_leading_level"
 
 
 def uses_of(text, module, section, name):
-    common = [w for w in ("ap", "reverse") if re.search(rf"\b{w}\b", text)] + (["Ok"] if "(Ok " in text else [])
+    common = [w for w in ("ap", "reverse", "arith") if re.search(rf"\b{w}\b", text)] + (["Ok"] if "(Ok " in text else [])
+    common += ["◌≡◌"] if "≡" in text else []
     places = [w for w in ("at_place", "built_at_place", "of_part", "built_of_part", "is_of_part") if re.search(rf"(?<![\w])({w})\b", text)]
     lines = [f"use Rattle.std.proofs.Common.{{{', '.join(common)}}}"]
     lines += [line for short, line in PREAMBLE.items() if re.search(rf"(?<![\w.]){re.escape(short)}\w", text)]
@@ -605,7 +606,7 @@ def answers(machine, function):
                 out.append((goal, f"let h = {fits} in\n    record {{ value = h.value; below = h.below; makes = h.makes }}"))
         out.append((f"returns-in-{case}", built + ensured))
     if function.name == "build_more":
-        out.append(("unreachable-requires", f"levels.no_third {variables} c.args.index {old} c.in_default.not-0 c.in_default.not-1 c.requires"))
+        out.append(("unreachable-requires", f"levels.no_third {variables} c.args.index {old} (λ (e : c.args.index ≡ 0). omega arith) (λ (e : c.args.index ≡ 1). omega arith) c.requires"))
     return "".join(f"\npub {g} : goal.{g}\n{g} c =\n    {t}\n" for g, t in out)
 
 

@@ -1,6 +1,5 @@
 -- What the tokens of a text come to (docs/LANGUAGE.md, "Grammar", "Limits", "Words of the command line").
-use Rattle.std.specs.Prelude.{◌≡◌, ⊤, ℕ, List, [], ◌∷◌, Option, Some, None, MatchOption, MatchResult, length}
-use Rattle.std.specs.declared.result.Result.{Result}
+use Rattle.std.specs.Prelude.{◌≡◌, ℕ, List, [], ◌∷◌, Option, Some, None, MatchOption, Result, Ok, Err, length}
 use Rattle.aen_base.specs.declared.span.Span.{Span}
 use Rattle.table_reader.specs.declared.take.Take.TheVariants as K
 use Rattle.table_reader.specs.Reading as table
@@ -21,24 +20,14 @@ use Rattle.rust_ast.specs.SourceTypes as t
 use Rattle.rust_reader.specs.declared.fault.ReadFault.{ReadFault}
 use Rattle.rust_reader.specs.declared.fault.ReadFault.TheVariants as F
 
--- these lexemes are read as this program, and as no other
-pub record IsProgram (ls : List Lexeme) (p : Program) : Type 0 where
-  pub reads : Reads ls p
-  pub only : (other : Program) → Reads ls other → other ≡ p
-
--- each fault has its cause; want of memory alone may come at any source
-abbrev pub IsFault : List Token → List Lexeme → Option Span → ℕ → ReadFault → Type 0
-IsFault ts ls bad end (F.Unsupported span) = IsCause ts ls bad end (R.Unsupported span)
-IsFault ts ls bad end (F.Limit which n) = IsCause ts ls bad end (R.Limit which n)
-IsFault ts ls bad end (F.Syntax span) = IsCause ts ls bad end (R.Syntax span)
-IsFault ts ls bad end F.Memory = ⊤
-
--- what tokens, which are these lexemes, come to, up to a lexical fault in a text of so many bytes
-abbrev pub IsReading : List Token → List Lexeme → Option Span → ℕ → Result Program ReadFault → Type 0
-IsReading ts ls bad end result = MatchResult result (λ p. IsKept ts ls bad × IsProgram ls p) (λ f. IsFault ts ls bad end f)
-
-abbrev pub IsAnswer : List ℕ → List Token → Option Span → Result Program ReadFault → Type 0
-IsAnswer text ts bad result = IsReading ts (lexemes text None ts) bad (length text) result
+-- what the tokens of a text come to, up to a lexical fault: the program that its lexemes are read as, and no other, which
+-- is refused for nothing; or the first cause why it is refused. Want of memory alone may come at any text
+abbrev pub IsReading : List ℕ → List Token → Option Span → Result Program ReadFault → Type 0
+IsReading text ts bad (Ok p) = IsKept ts (lexemes text None ts) bad × Reads (lexemes text None ts) p × ((q : Program) → Reads (lexemes text None ts) q → q ≡ p)
+IsReading text ts bad (Err (F.Unsupported span)) = IsCause ts (lexemes text None ts) bad (length text) (R.Unsupported span)
+IsReading text ts bad (Err (F.Limit which n)) = IsCause ts (lexemes text None ts) bad (length text) (R.Limit which n)
+IsReading text ts bad (Err (F.Syntax span)) = IsCause ts (lexemes text None ts) bad (length text) (R.Syntax span)
+IsReading text ts bad (Err F.Memory) = Unit {0}
 
 -- types up to `>`
 abbrev pub ReadsList : List Lexeme → Carrier (N.List Of.TypesInAngles) → Type 0

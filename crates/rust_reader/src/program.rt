@@ -7,7 +7,8 @@ ghost use Rattle.source_values.specs.Held.{held};
 ghost use Rattle.source_values.specs.Stacked.{Is};
 ghost use Rattle.source_values.specs.declared.value.Value.TheVariants as V;
 ghost use Rattle.source_syntax.specs.Refusals as syntax;
-ghost use Rattle.rust_reader.specs.Answers.{IsProgram};
+ghost use Rattle.source_ways.specs.Reading.{Reads};
+ghost use Rattle.rust_ast.specs.declared.program.Program.{Program};
 
 use aen_base::{NoMem, Span};
 use rust_ast::program::Program;
@@ -25,7 +26,7 @@ pub(crate) fn program_or_fault(
     bad: Option<Span>,
     end: u32,
 ) -> Result<Result<Program, Span>, NoMem>
-    ensures { IfOk result (λ r. MatchResult r (λ p. (bad ≡ None) × syntax.IsProgram lexemes.now × IsProgram lexemes.now p) (λ span. syntax.IsSyntaxFault lexemes.now bad end span)) }
+    ensures { IfOk result (λ r. MatchResult r (λ p. (bad ≡ None) × syntax.IsProgram lexemes.now × Reads lexemes.now p × ((q : Program) → Reads lexemes.now q → q ≡ p)) (λ span. syntax.IsSyntaxFault lexemes.now bad end span)) }
 {
     match table_reader::read::<SourceReader>(alloc, Part::Program, lexemes)? {
         Err(place) => Ok(Err(fault_at(lexemes, place, bad, end))),

@@ -15,7 +15,7 @@ use std::alloc::Global;
 pub fn read(alloc: Global, text: &str, tokens: &Tokens) -> Result<Program, ReadFault>
     requires size { length text.now < 2 ^ 32 }
     requires slices { All (IsTokenOf text.now) tokens.now.list }
-    ensures { spec.IsAnswer text.now tokens.now.list tokens.now.bad result }
+    ensures { spec.IsReading text.now tokens.now.list tokens.now.bad result }
 {
     if let Some(span) = first_excluded(tokens.list.as_slice()) {
         return Err(ReadFault::Unsupported(span));

@@ -1,5 +1,5 @@
 -- What `build_more` calls builds the part. Written by tools/source_build.py.
-use Rattle.std.proofs.Common.{reverse, Ok}
+use Rattle.std.proofs.Common.{reverse, arith, Ok, ◌≡◌}
 use Rattle.source_grammar.specs.declared.part.Part.TheVariants as N
 use Rattle.source_builder.proofs.Levels as levels
 use Rattle.source_builder.proofs.Places.{at_place, built_at_place}
@@ -19,4 +19,4 @@ returns-in-1 c =
 
 pub unreachable-requires : goal.unreachable-requires
 unreachable-requires c =
-    levels.no_third c.args.level c.args.context c.args.index (reverse c.args.values.now) c.in_default.not-0 c.in_default.not-1 c.requires
+    levels.no_third c.args.level c.args.context c.args.index (reverse c.args.values.now) (λ (e : c.args.index ≡ 0). omega arith) (λ (e : c.args.index ≡ 1). omega arith) c.requires
