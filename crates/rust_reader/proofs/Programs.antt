@@ -67,8 +67,13 @@ pub holds_items : (ls : List Lexeme) (value : Value) → R.IsReadAs takes Carrie
 holds_items ls value h = record { value = h.carried; is = h.holds }
 
 -- and no other program is read
-pub only : (ls : List Lexeme) (p : Program) (value : Value) → (h : R.IsReadAs takes Carrier made held N.Program ls value) → p ≡ record { items = h.carried.value } →
-    syntax.IsProgram ls × Reads ls p × ((q : Program) → Reads ls q → q ≡ p)
-only ls p value h e =
-    (derived ls h.carried h.reads, (h.carried, (h.reads, e)), λ q (r : Reads ls q).
-    r.1.1 ∙ (ap (λ (v : Carrier N.Program). record { items = v.value }) (h.only r.0 r.1.0) ∙ sym e))
+other_is : (ls : List Lexeme) (p q : Program) (v : Carrier N.Program) → ((w : Carrier N.Program) → IsRead N.Program ls [] w → w ≡ v) → p ≡ record { items = v.value } →
+    Reads ls q → q ≡ p
+other_is ls p q v alone e r = r.1.1 ∙ (ap (λ (w : Carrier N.Program). let x : Program = record { items = w.value } in x) (alone r.0 r.1.0) ∙ sym e)
+
+pub found : (ls : List Lexeme) (bad : Option Span) (p : Program) (value : Value) → R.IsReadAs takes Carrier made held N.Program ls value →
+    ((v : Carrier N.Program) → value ≡ held N.Program v → p ≡ record { items = v.value }) → bad ≡ None →
+    (bad ≡ None) × syntax.IsProgram ls × Reads ls p × ((q : Program) → Reads ls q → q ≡ p)
+found ls bad p value h is none =
+    let e : p ≡ record { items = h.carried.value } = is h.carried h.holds in
+    (none, derived ls h.carried h.reads, (h.carried, (h.reads, e)), λ q r. other_is ls p q h.carried h.only e r)

@@ -20,6 +20,7 @@ use std::alloc::Global;
 
 /// The program that the lexemes before a lexical fault are, in a text of so many bytes, or where they
 /// are none. The only error is want of memory.
+#[tactic(auto, using(crate::proofs::Programs::at_lexical, crate::proofs::Programs::holds_items, crate::proofs::Programs::found))]
 pub(crate) fn program_or_fault(
     alloc: Global,
     lexemes: &[Lexeme],

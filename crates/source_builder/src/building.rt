@@ -18,7 +18,12 @@ use std::alloc::Global;
 
 /// Builds the value of a part by its production in place `index`, from 0: takes the values of its symbols off, the
 /// newest first. The only error is want of memory.
-pub(crate) fn build_part(alloc: Global, part: Part, index: usize, values: &mut Stack) -> Result<Value, NoMem>
+pub(crate) fn build_part(
+    alloc: Global,
+    part: Part,
+    index: usize,
+    values: &mut Stack,
+) -> Result<Value, NoMem>
     requires { CanBuild part index (reverse values.old) }
     ensures { IfOk result (λ it. IsBuilt part index (reverse values.old) it (reverse values.new)) }
 {
@@ -70,7 +75,9 @@ pub(crate) fn build_part(alloc: Global, part: Part, index: usize, values: &mut S
         Part::LeadingExpression => expressions::build_leading_expression(alloc, index, values),
         Part::Operand => expressions::build_operand(index, values),
         Part::MoreAssign(context) => expressions::build_more_assign(alloc, context, index, values),
-        Part::Level(level, context) => expressions::build_level(alloc, level, context, index, values),
+        Part::Level(level, context) => expressions::build_level(
+            alloc, level, context, index, values,
+        ),
         Part::LeadingLevel(level) => expressions::build_leading_level(alloc, level, index, values),
         Part::More(level, context) => expressions::build_more(alloc, level, context, index, values),
         Part::Cast(context) => expressions::build_cast(alloc, context, index, values),
@@ -94,8 +101,12 @@ pub(crate) fn build_part(alloc: Global, part: Part, index: usize, values: &mut S
         Part::NameMore(context) => paths::build_name_more(context, index, values),
         Part::Applied(context) => paths::build_applied(context, index, values),
         Part::AfterColons(context) => paths::build_after_colons(alloc, context, index, values),
-        Part::AfterMemColons(context) => paths::build_after_mem_colons(alloc, context, index, values),
-        Part::AfterStdColons(context) => paths::build_after_std_colons(alloc, context, index, values),
+        Part::AfterMemColons(context) => paths::build_after_mem_colons(
+            alloc, context, index, values,
+        ),
+        Part::AfterStdColons(context) => paths::build_after_std_colons(
+            alloc, context, index, values,
+        ),
         Part::AfterStdMem => paths::build_after_std_mem(index, values),
         Part::AfterStdMemColons => paths::build_after_std_mem_colons(index, values),
         Part::AfterTurbo(context) => paths::build_after_turbo(alloc, context, index, values),
@@ -115,8 +126,12 @@ pub(crate) fn build_part(alloc: Global, part: Part, index: usize, values: &mut S
         Part::AfterPatternMem => patterns::build_after_pattern_mem(index, values),
         Part::AfterPatternStd => patterns::build_after_pattern_std(index, values),
         Part::AfterPatternColons => patterns::build_after_pattern_colons(alloc, index, values),
-        Part::AfterPatternMemColons => patterns::build_after_pattern_mem_colons(alloc, index, values),
-        Part::AfterPatternStdColons => patterns::build_after_pattern_std_colons(alloc, index, values),
+        Part::AfterPatternMemColons => patterns::build_after_pattern_mem_colons(
+            alloc, index, values,
+        ),
+        Part::AfterPatternStdColons => patterns::build_after_pattern_std_colons(
+            alloc, index, values,
+        ),
         Part::AfterPatternStdMem => patterns::build_after_pattern_std_mem(alloc, index, values),
     }
 }

@@ -61,12 +61,7 @@ impl Builds for SourceReader {
         copied(alloc, lexeme)
     }
 
-    fn build(
-        alloc: Global,
-        part: Part,
-        index: usize,
-        values: &mut Stack,
-    ) -> Result<Value, NoMem> {
+    fn build(alloc: Global, part: Part, index: usize, values: &mut Stack) -> Result<Value, NoMem> {
         build_part(alloc, part, index, values)
     }
 

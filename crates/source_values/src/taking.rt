@@ -5,8 +5,8 @@ ghost use Rattle.table_reader.specs.declared.item.Item.TheVariants as I;
 ghost use Rattle.source_values.specs.declared.value.Value.TheVariants as V;
 ghost use Rattle.source_values.specs.Stacked.{HasToken, HasMark, HasPart, Has, Is};
 
-use aen_base::{IntTy, Name, Span};
 use crate::value::{Stack, Value};
+use aen_base::{IntTy, Name, Span};
 use rust_ast::Ident;
 use rust_ast::program::{Fields, Item, Param, Variant};
 use rust_ast::source::{Block, Expr};

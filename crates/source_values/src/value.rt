@@ -1,7 +1,6 @@
 //! What is held of each part. Written by tools/source_build.py.
 
-use aen_base::List;
-use aen_base::{IntTy, Name, Span};
+use aen_base::{IntTy, List, Name, Span};
 use rust_ast::Ident;
 use rust_ast::program::{Fields, Item, Param, Variant};
 use rust_ast::source::{Block, Expr};

@@ -59,12 +59,7 @@ fn inner(alloc: Global, block: Block) -> Result<Expr, NoMem>
 }
 
 /// A block, from its first brace on. The only error is want of memory.
-pub fn block(
-    alloc: Global,
-    whole: Span,
-    brace: Lexeme,
-    body: Spanned<Body>,
-) -> Result<Block, NoMem>
+pub fn block(alloc: Global, whole: Span, brace: Lexeme, body: Spanned<Body>) -> Result<Block, NoMem>
     ensures { IfOk result (λ it. it ≡ spec.block whole brace body) }
 {
     block_of(alloc, whole, body.value)
@@ -363,11 +358,7 @@ pub fn arm(
 }
 
 /// The body of an arm, and the arms after it.
-pub fn arm_body(
-    whole: Span,
-    body: Spanned<Expr>,
-    more: Spanned<FrontList<(Pat, Expr)>>,
-) -> ArmBody
+pub fn arm_body(whole: Span, body: Spanned<Expr>, more: Spanned<FrontList<(Pat, Expr)>>) -> ArmBody
     ensures { result ≡ spec.arm_body whole body more }
 {
     ArmBody {

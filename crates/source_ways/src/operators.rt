@@ -243,24 +243,14 @@ fn negated(alloc: Global, whole: Span, operand: Span, e: Expr) -> Result<Expr, N
 }
 
 /// `-` and its operand. The only error is want of memory.
-pub fn minus(
-    alloc: Global,
-    whole: Span,
-    mark: Lexeme,
-    e: Spanned<Expr>,
-) -> Result<Expr, NoMem>
+pub fn minus(alloc: Global, whole: Span, mark: Lexeme, e: Spanned<Expr>) -> Result<Expr, NoMem>
     ensures { IfOk result (λ it. it ≡ spec.minus whole mark e) }
 {
     negated(alloc, whole, span_of(e.extent), e.value)
 }
 
 /// `!` and its operand. The only error is want of memory.
-pub fn negation(
-    alloc: Global,
-    whole: Span,
-    mark: Lexeme,
-    e: Spanned<Expr>,
-) -> Result<Expr, NoMem>
+pub fn negation(alloc: Global, whole: Span, mark: Lexeme, e: Spanned<Expr>) -> Result<Expr, NoMem>
     ensures { IfOk result (λ it. it ≡ spec.negation whole mark e) }
 {
     let e = Boxed::new(alloc, e.value)?;
@@ -285,12 +275,7 @@ pub fn dereference(
 }
 
 /// `&` and what stands after it. The only error is want of memory.
-pub fn borrow(
-    alloc: Global,
-    whole: Span,
-    mark: Lexeme,
-    b: Spanned<Borrowed>,
-) -> Result<Expr, NoMem>
+pub fn borrow(alloc: Global, whole: Span, mark: Lexeme, b: Spanned<Borrowed>) -> Result<Expr, NoMem>
     ensures { IfOk result (λ it. it ≡ spec.borrow whole mark b) }
 {
     let Borrowed { mutable, operand } = b.value;

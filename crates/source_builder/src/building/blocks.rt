@@ -5,7 +5,13 @@ ghost use Rattle.source_grammar.specs.declared.part.Part.TheVariants as N;
 ghost use Rattle.source_values.specs.Stacked.{CanBuild, IsBuilt};
 
 use aen_base::NoMem;
-use source_values::made::blocks::{after_block_arm_0, after_block_like_0, after_block_like_1, after_expression_1, after_if_0, after_if_1, after_while_0, after_while_1, arm_body_0, arms_0, arms_1, block_0, block_like_0, block_like_1, block_like_2, block_like_3, block_like_4, if_0, let_value_0, let_value_1, more_statements_0, more_statements_1, more_statements_2, more_statements_3, statements_0, statements_1};
+use source_values::made::blocks::{
+    after_block_arm_0, after_block_like_0, after_block_like_1, after_expression_1, after_if_0,
+    after_if_1, after_while_0, after_while_1, arm_body_0, arms_0, arms_1, block_0, block_like_0,
+    block_like_1, block_like_2, block_like_3, block_like_4, if_0, let_value_0, let_value_1,
+    more_statements_0, more_statements_1, more_statements_2, more_statements_3, statements_0,
+    statements_1,
+};
 use source_values::made::items::{result_0, result_1};
 use source_values::{Stack, Value};
 use std::alloc::Global;
@@ -20,7 +26,11 @@ pub(crate) fn build_block(alloc: Global, index: usize, values: &mut Stack) -> Re
     }
 }
 
-pub(crate) fn build_statements(alloc: Global, index: usize, values: &mut Stack) -> Result<Value, NoMem>
+pub(crate) fn build_statements(
+    alloc: Global,
+    index: usize,
+    values: &mut Stack,
+) -> Result<Value, NoMem>
     requires { CanBuild N.Statements index (reverse values.old) }
     ensures { IfOk result (λ it. IsBuilt N.Statements index (reverse values.old) it (reverse values.new)) }
 {
@@ -31,7 +41,11 @@ pub(crate) fn build_statements(alloc: Global, index: usize, values: &mut Stack) 
     }
 }
 
-pub(crate) fn build_more_statements(alloc: Global, index: usize, values: &mut Stack) -> Result<Value, NoMem>
+pub(crate) fn build_more_statements(
+    alloc: Global,
+    index: usize,
+    values: &mut Stack,
+) -> Result<Value, NoMem>
     requires { CanBuild N.MoreStatements index (reverse values.old) }
     ensures { IfOk result (λ it. IsBuilt N.MoreStatements index (reverse values.old) it (reverse values.new)) }
 {
@@ -88,7 +102,11 @@ pub(crate) fn build_let_value(index: usize, values: &mut Stack) -> Result<Value,
     }
 }
 
-pub(crate) fn build_block_like(alloc: Global, index: usize, values: &mut Stack) -> Result<Value, NoMem>
+pub(crate) fn build_block_like(
+    alloc: Global,
+    index: usize,
+    values: &mut Stack,
+) -> Result<Value, NoMem>
     requires { CanBuild N.BlockLike index (reverse values.old) }
     ensures { IfOk result (λ it. IsBuilt N.BlockLike index (reverse values.old) it (reverse values.new)) }
 {
@@ -145,7 +163,11 @@ pub(crate) fn build_else(index: usize, values: &mut Stack) -> Result<Value, NoMe
     }
 }
 
-pub(crate) fn build_after_else(alloc: Global, index: usize, values: &mut Stack) -> Result<Value, NoMem>
+pub(crate) fn build_after_else(
+    alloc: Global,
+    index: usize,
+    values: &mut Stack,
+) -> Result<Value, NoMem>
     requires { CanBuild N.AfterElse index (reverse values.old) }
     ensures { IfOk result (λ it. IsBuilt N.AfterElse index (reverse values.old) it (reverse values.new)) }
 {
@@ -178,7 +200,11 @@ pub(crate) fn build_arm_body(index: usize, values: &mut Stack) -> Result<Value, 
     }
 }
 
-pub(crate) fn build_after_block_arm(alloc: Global, index: usize, values: &mut Stack) -> Result<Value, NoMem>
+pub(crate) fn build_after_block_arm(
+    alloc: Global,
+    index: usize,
+    values: &mut Stack,
+) -> Result<Value, NoMem>
     requires { CanBuild N.AfterBlockArm index (reverse values.old) }
     ensures { IfOk result (λ it. IsBuilt N.AfterBlockArm index (reverse values.old) it (reverse values.new)) }
 {
@@ -190,7 +216,11 @@ pub(crate) fn build_after_block_arm(alloc: Global, index: usize, values: &mut St
     }
 }
 
-pub(crate) fn build_after_arm(alloc: Global, index: usize, values: &mut Stack) -> Result<Value, NoMem>
+pub(crate) fn build_after_arm(
+    alloc: Global,
+    index: usize,
+    values: &mut Stack,
+) -> Result<Value, NoMem>
     requires { CanBuild N.AfterArm index (reverse values.old) }
     ensures { IfOk result (λ it. IsBuilt N.AfterArm index (reverse values.old) it (reverse values.new)) }
 {

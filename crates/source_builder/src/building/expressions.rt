@@ -8,12 +8,23 @@ ghost use Rattle.source_grammar.specs.declared.part.Context.TheVariants as At;
 use aen_base::NoMem;
 use source_grammar::{Context, Level};
 use source_values::made::blocks::{let_value_0, let_value_1};
-use source_values::made::expressions::{after_first_1, after_open_0, after_open_1, borrowed_free_0, borrowed_free_1, core_free_0, core_free_1, core_free_2, core_free_3, core_free_6, expression_condition_0, expression_condition_1, field_name_0, initial_0, leading_cast_0, leading_expression_0, leading_expression_1, leading_expression_2, leading_expression_3, leading_unary_0, leading_unary_1, leading_unary_2, leading_unary_3, leading_unary_4, more_assign_free_0, more_assign_free_1, more_casts_0, more_casts_1, more_or_free_1, operand_1, postfix_1};
-use source_values::made::items::{type_parameters_0};
+use source_values::made::expressions::{
+    after_first_1, after_open_0, after_open_1, borrowed_free_0, borrowed_free_1, core_free_0,
+    core_free_1, core_free_2, core_free_3, core_free_6, expression_condition_0,
+    expression_condition_1, field_name_0, initial_0, leading_cast_0, leading_expression_0,
+    leading_expression_1, leading_expression_2, leading_expression_3, leading_unary_0,
+    leading_unary_1, leading_unary_2, leading_unary_3, leading_unary_4, more_assign_free_0,
+    more_assign_free_1, more_casts_0, more_casts_1, more_or_free_1, operand_1, postfix_1,
+};
+use source_values::made::items::type_parameters_0;
 use source_values::{Stack, Value};
 use std::alloc::Global;
 
-pub(crate) fn build_expression_free(alloc: Global, index: usize, values: &mut Stack) -> Result<Value, NoMem>
+pub(crate) fn build_expression_free(
+    alloc: Global,
+    index: usize,
+    values: &mut Stack,
+) -> Result<Value, NoMem>
     requires { CanBuild (N.Expression At.Free) index (reverse values.old) }
     ensures { IfOk result (λ it. IsBuilt (N.Expression At.Free) index (reverse values.old) it (reverse values.new)) }
 {
@@ -26,7 +37,11 @@ pub(crate) fn build_expression_free(alloc: Global, index: usize, values: &mut St
     }
 }
 
-pub(crate) fn build_expression_condition(alloc: Global, index: usize, values: &mut Stack) -> Result<Value, NoMem>
+pub(crate) fn build_expression_condition(
+    alloc: Global,
+    index: usize,
+    values: &mut Stack,
+) -> Result<Value, NoMem>
     requires { CanBuild (N.Expression At.Condition) index (reverse values.old) }
     ensures { IfOk result (λ it. IsBuilt (N.Expression At.Condition) index (reverse values.old) it (reverse values.new)) }
 {
@@ -39,7 +54,12 @@ pub(crate) fn build_expression_condition(alloc: Global, index: usize, values: &m
     }
 }
 
-pub(crate) fn build_expression(alloc: Global, context: Context, index: usize, values: &mut Stack) -> Result<Value, NoMem>
+pub(crate) fn build_expression(
+    alloc: Global,
+    context: Context,
+    index: usize,
+    values: &mut Stack,
+) -> Result<Value, NoMem>
     requires { CanBuild (N.Expression context) index (reverse values.old) }
     ensures { IfOk result (λ it. IsBuilt (N.Expression context) index (reverse values.old) it (reverse values.new)) }
 {
@@ -49,7 +69,11 @@ pub(crate) fn build_expression(alloc: Global, context: Context, index: usize, va
     }
 }
 
-pub(crate) fn build_leading_expression(alloc: Global, index: usize, values: &mut Stack) -> Result<Value, NoMem>
+pub(crate) fn build_leading_expression(
+    alloc: Global,
+    index: usize,
+    values: &mut Stack,
+) -> Result<Value, NoMem>
     requires { CanBuild N.LeadingExpression index (reverse values.old) }
     ensures { IfOk result (λ it. IsBuilt N.LeadingExpression index (reverse values.old) it (reverse values.new)) }
 {
@@ -73,7 +97,12 @@ pub(crate) fn build_operand(index: usize, values: &mut Stack) -> Result<Value, N
     }
 }
 
-pub(crate) fn build_more_assign(alloc: Global, context: Context, index: usize, values: &mut Stack) -> Result<Value, NoMem>
+pub(crate) fn build_more_assign(
+    alloc: Global,
+    context: Context,
+    index: usize,
+    values: &mut Stack,
+) -> Result<Value, NoMem>
     requires { CanBuild (N.MoreAssign context) index (reverse values.old) }
     ensures { IfOk result (λ it. IsBuilt (N.MoreAssign context) index (reverse values.old) it (reverse values.new)) }
 {
@@ -84,7 +113,13 @@ pub(crate) fn build_more_assign(alloc: Global, context: Context, index: usize, v
     }
 }
 
-pub(crate) fn build_level(alloc: Global, level: Level, context: Context, index: usize, values: &mut Stack) -> Result<Value, NoMem>
+pub(crate) fn build_level(
+    alloc: Global,
+    level: Level,
+    context: Context,
+    index: usize,
+    values: &mut Stack,
+) -> Result<Value, NoMem>
     requires { CanBuild (N.Level level context) index (reverse values.old) }
     ensures { IfOk result (λ it. IsBuilt (N.Level level context) index (reverse values.old) it (reverse values.new)) }
 {
@@ -94,7 +129,12 @@ pub(crate) fn build_level(alloc: Global, level: Level, context: Context, index: 
     }
 }
 
-pub(crate) fn build_leading_level(alloc: Global, level: Level, index: usize, values: &mut Stack) -> Result<Value, NoMem>
+pub(crate) fn build_leading_level(
+    alloc: Global,
+    level: Level,
+    index: usize,
+    values: &mut Stack,
+) -> Result<Value, NoMem>
     requires { CanBuild (N.LeadingLevel level) index (reverse values.old) }
     ensures { IfOk result (λ it. IsBuilt (N.LeadingLevel level) index (reverse values.old) it (reverse values.new)) }
 {
@@ -104,7 +144,12 @@ pub(crate) fn build_leading_level(alloc: Global, level: Level, index: usize, val
     }
 }
 
-pub(crate) fn build_operation(alloc: Global, level: Level, context: Context, values: &mut Stack) -> Result<Value, NoMem>
+pub(crate) fn build_operation(
+    alloc: Global,
+    level: Level,
+    context: Context,
+    values: &mut Stack,
+) -> Result<Value, NoMem>
     requires { CanBuild (N.More level context) 1 (reverse values.old) }
     ensures { IfOk result (λ it. IsBuilt (N.More level context) 1 (reverse values.old) it (reverse values.new)) }
 {
@@ -121,7 +166,13 @@ pub(crate) fn build_operation(alloc: Global, level: Level, context: Context, val
     }
 }
 
-pub(crate) fn build_more(alloc: Global, level: Level, context: Context, index: usize, values: &mut Stack) -> Result<Value, NoMem>
+pub(crate) fn build_more(
+    alloc: Global,
+    level: Level,
+    context: Context,
+    index: usize,
+    values: &mut Stack,
+) -> Result<Value, NoMem>
     requires { CanBuild (N.More level context) index (reverse values.old) }
     ensures { IfOk result (λ it. IsBuilt (N.More level context) index (reverse values.old) it (reverse values.new)) }
 {
@@ -132,7 +183,12 @@ pub(crate) fn build_more(alloc: Global, level: Level, context: Context, index: u
     }
 }
 
-pub(crate) fn build_cast(alloc: Global, context: Context, index: usize, values: &mut Stack) -> Result<Value, NoMem>
+pub(crate) fn build_cast(
+    alloc: Global,
+    context: Context,
+    index: usize,
+    values: &mut Stack,
+) -> Result<Value, NoMem>
     requires { CanBuild (N.Cast context) index (reverse values.old) }
     ensures { IfOk result (λ it. IsBuilt (N.Cast context) index (reverse values.old) it (reverse values.new)) }
 {
@@ -142,7 +198,11 @@ pub(crate) fn build_cast(alloc: Global, context: Context, index: usize, values: 
     }
 }
 
-pub(crate) fn build_leading_cast(alloc: Global, index: usize, values: &mut Stack) -> Result<Value, NoMem>
+pub(crate) fn build_leading_cast(
+    alloc: Global,
+    index: usize,
+    values: &mut Stack,
+) -> Result<Value, NoMem>
     requires { CanBuild N.LeadingCast index (reverse values.old) }
     ensures { IfOk result (λ it. IsBuilt N.LeadingCast index (reverse values.old) it (reverse values.new)) }
 {
@@ -152,7 +212,11 @@ pub(crate) fn build_leading_cast(alloc: Global, index: usize, values: &mut Stack
     }
 }
 
-pub(crate) fn build_more_casts(alloc: Global, index: usize, values: &mut Stack) -> Result<Value, NoMem>
+pub(crate) fn build_more_casts(
+    alloc: Global,
+    index: usize,
+    values: &mut Stack,
+) -> Result<Value, NoMem>
     requires { CanBuild N.MoreCasts index (reverse values.old) }
     ensures { IfOk result (λ it. IsBuilt N.MoreCasts index (reverse values.old) it (reverse values.new)) }
 {
@@ -163,7 +227,12 @@ pub(crate) fn build_more_casts(alloc: Global, index: usize, values: &mut Stack) 
     }
 }
 
-pub(crate) fn build_unary(alloc: Global, context: Context, index: usize, values: &mut Stack) -> Result<Value, NoMem>
+pub(crate) fn build_unary(
+    alloc: Global,
+    context: Context,
+    index: usize,
+    values: &mut Stack,
+) -> Result<Value, NoMem>
     requires { CanBuild (N.Unary context) index (reverse values.old) }
     ensures { IfOk result (λ it. IsBuilt (N.Unary context) index (reverse values.old) it (reverse values.new)) }
 {
@@ -178,7 +247,11 @@ pub(crate) fn build_unary(alloc: Global, context: Context, index: usize, values:
     }
 }
 
-pub(crate) fn build_leading_unary(alloc: Global, index: usize, values: &mut Stack) -> Result<Value, NoMem>
+pub(crate) fn build_leading_unary(
+    alloc: Global,
+    index: usize,
+    values: &mut Stack,
+) -> Result<Value, NoMem>
     requires { CanBuild N.LeadingUnary index (reverse values.old) }
     ensures { IfOk result (λ it. IsBuilt N.LeadingUnary index (reverse values.old) it (reverse values.new)) }
 {
@@ -192,7 +265,11 @@ pub(crate) fn build_leading_unary(alloc: Global, index: usize, values: &mut Stac
     }
 }
 
-pub(crate) fn build_borrowed(context: Context, index: usize, values: &mut Stack) -> Result<Value, NoMem>
+pub(crate) fn build_borrowed(
+    context: Context,
+    index: usize,
+    values: &mut Stack,
+) -> Result<Value, NoMem>
     requires { CanBuild (N.Borrowed context) index (reverse values.old) }
     ensures { IfOk result (λ it. IsBuilt (N.Borrowed context) index (reverse values.old) it (reverse values.new)) }
 {
@@ -214,7 +291,11 @@ pub(crate) fn build_postfix(alloc: Global, index: usize, values: &mut Stack) -> 
     }
 }
 
-pub(crate) fn build_field_name(alloc: Global, index: usize, values: &mut Stack) -> Result<Value, NoMem>
+pub(crate) fn build_field_name(
+    alloc: Global,
+    index: usize,
+    values: &mut Stack,
+) -> Result<Value, NoMem>
     requires { CanBuild N.FieldName index (reverse values.old) }
     ensures { IfOk result (λ it. IsBuilt N.FieldName index (reverse values.old) it (reverse values.new)) }
 {
@@ -225,7 +306,12 @@ pub(crate) fn build_field_name(alloc: Global, index: usize, values: &mut Stack) 
     }
 }
 
-pub(crate) fn build_core(alloc: Global, context: Context, index: usize, values: &mut Stack) -> Result<Value, NoMem>
+pub(crate) fn build_core(
+    alloc: Global,
+    context: Context,
+    index: usize,
+    values: &mut Stack,
+) -> Result<Value, NoMem>
     requires { CanBuild (N.Core context) index (reverse values.old) }
     ensures { IfOk result (λ it. IsBuilt (N.Core context) index (reverse values.old) it (reverse values.new)) }
 {
@@ -243,7 +329,11 @@ pub(crate) fn build_core(alloc: Global, context: Context, index: usize, values: 
     }
 }
 
-pub(crate) fn build_after_open(alloc: Global, index: usize, values: &mut Stack) -> Result<Value, NoMem>
+pub(crate) fn build_after_open(
+    alloc: Global,
+    index: usize,
+    values: &mut Stack,
+) -> Result<Value, NoMem>
     requires { CanBuild N.AfterOpen index (reverse values.old) }
     ensures { IfOk result (λ it. IsBuilt N.AfterOpen index (reverse values.old) it (reverse values.new)) }
 {
@@ -254,7 +344,11 @@ pub(crate) fn build_after_open(alloc: Global, index: usize, values: &mut Stack) 
     }
 }
 
-pub(crate) fn build_after_first(alloc: Global, index: usize, values: &mut Stack) -> Result<Value, NoMem>
+pub(crate) fn build_after_first(
+    alloc: Global,
+    index: usize,
+    values: &mut Stack,
+) -> Result<Value, NoMem>
     requires { CanBuild N.AfterFirst index (reverse values.old) }
     ensures { IfOk result (λ it. IsBuilt N.AfterFirst index (reverse values.old) it (reverse values.new)) }
 {

@@ -5,7 +5,13 @@ ghost use Rattle.source_grammar.specs.declared.part.Part.TheVariants as N;
 ghost use Rattle.source_values.specs.Stacked.{CanBuild, IsBuilt};
 
 use aen_base::NoMem;
-use source_values::made::items::{after_hash_0, after_hash_1, attribute_0, attributed_0, attributed_1, attributed_2, declaration_0, declaration_1, declaration_2, field_0, field_1, generics_0, generics_1, item_2, items_1, lifetimes_0, lifetimes_1, lifetimes_2, parameter_0, parameter_1, program_0, program_1, program_2, result_0, result_1, struct_body_0, struct_body_1, struct_body_2, tuple_field_0, tuple_field_1, type_parameters_0, type_parameters_1, variant_0, variant_body_0, variant_body_1};
+use source_values::made::items::{
+    after_hash_0, after_hash_1, attribute_0, attributed_0, attributed_1, attributed_2,
+    declaration_0, declaration_1, declaration_2, field_0, field_1, generics_0, generics_1, item_2,
+    items_1, lifetimes_0, lifetimes_1, lifetimes_2, parameter_0, parameter_1, program_0, program_1,
+    program_2, result_0, result_1, struct_body_0, struct_body_1, struct_body_2, tuple_field_0,
+    tuple_field_1, type_parameters_0, type_parameters_1, variant_0, variant_body_0, variant_body_1,
+};
 use source_values::{Stack, Value};
 use std::alloc::Global;
 
@@ -78,7 +84,11 @@ pub(crate) fn build_item(index: usize, values: &mut Stack) -> Result<Value, NoMe
     }
 }
 
-pub(crate) fn build_declaration(alloc: Global, index: usize, values: &mut Stack) -> Result<Value, NoMem>
+pub(crate) fn build_declaration(
+    alloc: Global,
+    index: usize,
+    values: &mut Stack,
+) -> Result<Value, NoMem>
     requires { CanBuild N.Declaration index (reverse values.old) }
     ensures { IfOk result (λ it. IsBuilt N.Declaration index (reverse values.old) it (reverse values.new)) }
 {
@@ -90,7 +100,11 @@ pub(crate) fn build_declaration(alloc: Global, index: usize, values: &mut Stack)
     }
 }
 
-pub(crate) fn build_generics(alloc: Global, index: usize, values: &mut Stack) -> Result<Value, NoMem>
+pub(crate) fn build_generics(
+    alloc: Global,
+    index: usize,
+    values: &mut Stack,
+) -> Result<Value, NoMem>
     requires { CanBuild N.Generics index (reverse values.old) }
     ensures { IfOk result (λ it. IsBuilt N.Generics index (reverse values.old) it (reverse values.new)) }
 {
@@ -101,7 +115,11 @@ pub(crate) fn build_generics(alloc: Global, index: usize, values: &mut Stack) ->
     }
 }
 
-pub(crate) fn build_lifetimes(alloc: Global, index: usize, values: &mut Stack) -> Result<Value, NoMem>
+pub(crate) fn build_lifetimes(
+    alloc: Global,
+    index: usize,
+    values: &mut Stack,
+) -> Result<Value, NoMem>
     requires { CanBuild N.Lifetimes index (reverse values.old) }
     ensures { IfOk result (λ it. IsBuilt N.Lifetimes index (reverse values.old) it (reverse values.new)) }
 {
@@ -113,7 +131,11 @@ pub(crate) fn build_lifetimes(alloc: Global, index: usize, values: &mut Stack) -
     }
 }
 
-pub(crate) fn build_more_lifetimes(alloc: Global, index: usize, values: &mut Stack) -> Result<Value, NoMem>
+pub(crate) fn build_more_lifetimes(
+    alloc: Global,
+    index: usize,
+    values: &mut Stack,
+) -> Result<Value, NoMem>
     requires { CanBuild N.MoreLifetimes index (reverse values.old) }
     ensures { IfOk result (λ it. IsBuilt N.MoreLifetimes index (reverse values.old) it (reverse values.new)) }
 {
@@ -124,7 +146,11 @@ pub(crate) fn build_more_lifetimes(alloc: Global, index: usize, values: &mut Sta
     }
 }
 
-pub(crate) fn build_type_parameters(alloc: Global, index: usize, values: &mut Stack) -> Result<Value, NoMem>
+pub(crate) fn build_type_parameters(
+    alloc: Global,
+    index: usize,
+    values: &mut Stack,
+) -> Result<Value, NoMem>
     requires { CanBuild N.TypeParameters index (reverse values.old) }
     ensures { IfOk result (λ it. IsBuilt N.TypeParameters index (reverse values.old) it (reverse values.new)) }
 {
@@ -135,7 +161,11 @@ pub(crate) fn build_type_parameters(alloc: Global, index: usize, values: &mut St
     }
 }
 
-pub(crate) fn build_parameter(alloc: Global, index: usize, values: &mut Stack) -> Result<Value, NoMem>
+pub(crate) fn build_parameter(
+    alloc: Global,
+    index: usize,
+    values: &mut Stack,
+) -> Result<Value, NoMem>
     requires { CanBuild N.Parameter index (reverse values.old) }
     ensures { IfOk result (λ it. IsBuilt N.Parameter index (reverse values.old) it (reverse values.new)) }
 {
@@ -157,7 +187,11 @@ pub(crate) fn build_result(index: usize, values: &mut Stack) -> Result<Value, No
     }
 }
 
-pub(crate) fn build_struct_body(alloc: Global, index: usize, values: &mut Stack) -> Result<Value, NoMem>
+pub(crate) fn build_struct_body(
+    alloc: Global,
+    index: usize,
+    values: &mut Stack,
+) -> Result<Value, NoMem>
     requires { CanBuild N.StructBody index (reverse values.old) }
     ensures { IfOk result (λ it. IsBuilt N.StructBody index (reverse values.old) it (reverse values.new)) }
 {
@@ -201,7 +235,11 @@ pub(crate) fn build_variant(alloc: Global, index: usize, values: &mut Stack) -> 
     }
 }
 
-pub(crate) fn build_variant_body(alloc: Global, index: usize, values: &mut Stack) -> Result<Value, NoMem>
+pub(crate) fn build_variant_body(
+    alloc: Global,
+    index: usize,
+    values: &mut Stack,
+) -> Result<Value, NoMem>
     requires { CanBuild N.VariantBody index (reverse values.old) }
     ensures { IfOk result (λ it. IsBuilt N.VariantBody index (reverse values.old) it (reverse values.new)) }
 {

@@ -8,7 +8,13 @@ use aen_base::NoMem;
 use source_grammar::Listed;
 use source_values::made::expressions::{after_open_0, after_open_1};
 use source_values::made::items::{type_parameters_1, variant_body_1};
-use source_values::made::lists::{list_field_patterns_0, list_field_patterns_1, list_fields_0, list_fields_1, list_initials_0, list_initials_1, list_names_0, list_names_1, list_parameters_0, list_parameters_1, list_rest_arguments_1, list_rest_field_patterns_1, list_rest_fields_1, list_rest_initials_1, list_rest_parameters_1, list_rest_patterns_1, list_rest_variants_1, list_variants_0, list_variants_1};
+use source_values::made::lists::{
+    list_field_patterns_0, list_field_patterns_1, list_fields_0, list_fields_1, list_initials_0,
+    list_initials_1, list_names_0, list_names_1, list_parameters_0, list_parameters_1,
+    list_rest_arguments_1, list_rest_field_patterns_1, list_rest_fields_1, list_rest_initials_1,
+    list_rest_parameters_1, list_rest_patterns_1, list_rest_variants_1, list_variants_0,
+    list_variants_1,
+};
 use source_values::made::patterns::{after_pattern_open_0, after_pattern_open_1};
 use source_values::made::types::{after_type_open_0, after_type_open_1};
 use source_values::{Stack, Value};
@@ -54,7 +60,12 @@ pub(crate) fn list_item(alloc: Global, listed: Listed, values: &mut Stack) -> Re
     }
 }
 
-pub(crate) fn build_list(alloc: Global, listed: Listed, index: usize, values: &mut Stack) -> Result<Value, NoMem>
+pub(crate) fn build_list(
+    alloc: Global,
+    listed: Listed,
+    index: usize,
+    values: &mut Stack,
+) -> Result<Value, NoMem>
     requires { CanBuild (N.List listed) index (reverse values.old) }
     ensures { IfOk result (λ it. IsBuilt (N.List listed) index (reverse values.old) it (reverse values.new)) }
 {
@@ -85,7 +96,12 @@ pub(crate) fn list_more(listed: Listed, values: &mut Stack) -> Value
     }
 }
 
-pub(crate) fn build_list_rest(alloc: Global, listed: Listed, index: usize, values: &mut Stack) -> Result<Value, NoMem>
+pub(crate) fn build_list_rest(
+    alloc: Global,
+    listed: Listed,
+    index: usize,
+    values: &mut Stack,
+) -> Result<Value, NoMem>
     requires { CanBuild (N.ListRest listed) index (reverse values.old) }
     ensures { IfOk result (λ it. IsBuilt (N.ListRest listed) index (reverse values.old) it (reverse values.new)) }
 {

@@ -7,11 +7,22 @@ ghost use Rattle.source_grammar.specs.declared.part.Context.TheVariants as At;
 
 use aen_base::NoMem;
 use source_grammar::Context;
-use source_values::made::paths::{after_assert_free_2, after_colons_free_0, after_colons_free_1, after_mem_colons_free_1, after_mem_free_1, after_mem_free_2, after_name_free_0, after_name_free_1, after_panic_free_2, after_path_0, after_path_1, after_path_2, after_std_colons_free_1, after_std_mem_0, after_std_mem_1, after_std_mem_2, after_std_mem_colons_0, after_std_mem_colons_1, after_turbo_free_0, after_turbo_free_1, applied_free_0, applied_free_1, assert_end_1, message_0, message_1};
+use source_values::made::paths::{
+    after_assert_free_2, after_colons_free_0, after_colons_free_1, after_mem_colons_free_1,
+    after_mem_free_1, after_mem_free_2, after_name_free_0, after_name_free_1, after_panic_free_2,
+    after_path_0, after_path_1, after_path_2, after_std_colons_free_1, after_std_mem_0,
+    after_std_mem_1, after_std_mem_2, after_std_mem_colons_0, after_std_mem_colons_1,
+    after_turbo_free_0, after_turbo_free_1, applied_free_0, applied_free_1, assert_end_1,
+    message_0, message_1,
+};
 use source_values::{Stack, Value};
 use std::alloc::Global;
 
-pub(crate) fn build_after_name(context: Context, index: usize, values: &mut Stack) -> Result<Value, NoMem>
+pub(crate) fn build_after_name(
+    context: Context,
+    index: usize,
+    values: &mut Stack,
+) -> Result<Value, NoMem>
     requires { CanBuild (N.AfterName context) index (reverse values.old) }
     ensures { IfOk result (λ it. IsBuilt (N.AfterName context) index (reverse values.old) it (reverse values.new)) }
 {
@@ -22,7 +33,11 @@ pub(crate) fn build_after_name(context: Context, index: usize, values: &mut Stac
     }
 }
 
-pub(crate) fn build_after_panic(context: Context, index: usize, values: &mut Stack) -> Result<Value, NoMem>
+pub(crate) fn build_after_panic(
+    context: Context,
+    index: usize,
+    values: &mut Stack,
+) -> Result<Value, NoMem>
     requires { CanBuild (N.AfterPanic context) index (reverse values.old) }
     ensures { IfOk result (λ it. IsBuilt (N.AfterPanic context) index (reverse values.old) it (reverse values.new)) }
 {
@@ -34,7 +49,11 @@ pub(crate) fn build_after_panic(context: Context, index: usize, values: &mut Sta
     }
 }
 
-pub(crate) fn build_after_assert(context: Context, index: usize, values: &mut Stack) -> Result<Value, NoMem>
+pub(crate) fn build_after_assert(
+    context: Context,
+    index: usize,
+    values: &mut Stack,
+) -> Result<Value, NoMem>
     requires { CanBuild (N.AfterAssert context) index (reverse values.old) }
     ensures { IfOk result (λ it. IsBuilt (N.AfterAssert context) index (reverse values.old) it (reverse values.new)) }
 {
@@ -46,7 +65,11 @@ pub(crate) fn build_after_assert(context: Context, index: usize, values: &mut St
     }
 }
 
-pub(crate) fn build_after_mem(context: Context, index: usize, values: &mut Stack) -> Result<Value, NoMem>
+pub(crate) fn build_after_mem(
+    context: Context,
+    index: usize,
+    values: &mut Stack,
+) -> Result<Value, NoMem>
     requires { CanBuild (N.AfterMem context) index (reverse values.old) }
     ensures { IfOk result (λ it. IsBuilt (N.AfterMem context) index (reverse values.old) it (reverse values.new)) }
 {
@@ -58,7 +81,11 @@ pub(crate) fn build_after_mem(context: Context, index: usize, values: &mut Stack
     }
 }
 
-pub(crate) fn build_after_std(context: Context, index: usize, values: &mut Stack) -> Result<Value, NoMem>
+pub(crate) fn build_after_std(
+    context: Context,
+    index: usize,
+    values: &mut Stack,
+) -> Result<Value, NoMem>
     requires { CanBuild (N.AfterStd context) index (reverse values.old) }
     ensures { IfOk result (λ it. IsBuilt (N.AfterStd context) index (reverse values.old) it (reverse values.new)) }
 {
@@ -70,7 +97,11 @@ pub(crate) fn build_after_std(context: Context, index: usize, values: &mut Stack
     }
 }
 
-pub(crate) fn build_name_more(context: Context, index: usize, values: &mut Stack) -> Result<Value, NoMem>
+pub(crate) fn build_name_more(
+    context: Context,
+    index: usize,
+    values: &mut Stack,
+) -> Result<Value, NoMem>
     requires { CanBuild (N.NameMore context) index (reverse values.old) }
     ensures { IfOk result (λ it. IsBuilt (N.NameMore context) index (reverse values.old) it (reverse values.new)) }
 {
@@ -102,7 +133,11 @@ pub(crate) fn build_applied_condition(index: usize, values: &mut Stack) -> Resul
     }
 }
 
-pub(crate) fn build_applied(context: Context, index: usize, values: &mut Stack) -> Result<Value, NoMem>
+pub(crate) fn build_applied(
+    context: Context,
+    index: usize,
+    values: &mut Stack,
+) -> Result<Value, NoMem>
     requires { CanBuild (N.Applied context) index (reverse values.old) }
     ensures { IfOk result (λ it. IsBuilt (N.Applied context) index (reverse values.old) it (reverse values.new)) }
 {
@@ -112,7 +147,12 @@ pub(crate) fn build_applied(context: Context, index: usize, values: &mut Stack) 
     }
 }
 
-pub(crate) fn build_after_colons(alloc: Global, context: Context, index: usize, values: &mut Stack) -> Result<Value, NoMem>
+pub(crate) fn build_after_colons(
+    alloc: Global,
+    context: Context,
+    index: usize,
+    values: &mut Stack,
+) -> Result<Value, NoMem>
     requires { CanBuild (N.AfterColons context) index (reverse values.old) }
     ensures { IfOk result (λ it. IsBuilt (N.AfterColons context) index (reverse values.old) it (reverse values.new)) }
 {
@@ -123,7 +163,12 @@ pub(crate) fn build_after_colons(alloc: Global, context: Context, index: usize, 
     }
 }
 
-pub(crate) fn build_after_mem_colons(alloc: Global, context: Context, index: usize, values: &mut Stack) -> Result<Value, NoMem>
+pub(crate) fn build_after_mem_colons(
+    alloc: Global,
+    context: Context,
+    index: usize,
+    values: &mut Stack,
+) -> Result<Value, NoMem>
     requires { CanBuild (N.AfterMemColons context) index (reverse values.old) }
     ensures { IfOk result (λ it. IsBuilt (N.AfterMemColons context) index (reverse values.old) it (reverse values.new)) }
 {
@@ -135,7 +180,12 @@ pub(crate) fn build_after_mem_colons(alloc: Global, context: Context, index: usi
     }
 }
 
-pub(crate) fn build_after_std_colons(alloc: Global, context: Context, index: usize, values: &mut Stack) -> Result<Value, NoMem>
+pub(crate) fn build_after_std_colons(
+    alloc: Global,
+    context: Context,
+    index: usize,
+    values: &mut Stack,
+) -> Result<Value, NoMem>
     requires { CanBuild (N.AfterStdColons context) index (reverse values.old) }
     ensures { IfOk result (λ it. IsBuilt (N.AfterStdColons context) index (reverse values.old) it (reverse values.new)) }
 {
@@ -170,7 +220,12 @@ pub(crate) fn build_after_std_mem_colons(index: usize, values: &mut Stack) -> Re
     }
 }
 
-pub(crate) fn build_after_turbo(alloc: Global, context: Context, index: usize, values: &mut Stack) -> Result<Value, NoMem>
+pub(crate) fn build_after_turbo(
+    alloc: Global,
+    context: Context,
+    index: usize,
+    values: &mut Stack,
+) -> Result<Value, NoMem>
     requires { CanBuild (N.AfterTurbo context) index (reverse values.old) }
     ensures { IfOk result (λ it. IsBuilt (N.AfterTurbo context) index (reverse values.old) it (reverse values.new)) }
 {

@@ -5,7 +5,14 @@ ghost use Rattle.source_grammar.specs.declared.part.Part.TheVariants as N;
 ghost use Rattle.source_values.specs.Stacked.{CanBuild, IsBuilt};
 
 use aen_base::NoMem;
-use source_values::made::patterns::{after_pattern_1, after_pattern_colons_0, after_pattern_colons_1, after_pattern_mem_colons_1, after_pattern_name_0, after_pattern_name_1, after_pattern_name_2, after_pattern_open_0, after_pattern_open_1, after_pattern_std_colons_1, after_pattern_std_mem_0, after_pattern_std_mem_1, after_pattern_std_mem_2, field_pattern_0, field_pattern_value_0, field_pattern_value_1, given_parts_0, given_parts_1, pattern_0, pattern_1, pattern_2, pattern_3, pattern_4, pattern_5, pattern_6, pattern_9, pattern_parts_0, pattern_parts_1};
+use source_values::made::patterns::{
+    after_pattern_1, after_pattern_colons_0, after_pattern_colons_1, after_pattern_mem_colons_1,
+    after_pattern_name_0, after_pattern_name_1, after_pattern_name_2, after_pattern_open_0,
+    after_pattern_open_1, after_pattern_std_colons_1, after_pattern_std_mem_0,
+    after_pattern_std_mem_1, after_pattern_std_mem_2, field_pattern_0, field_pattern_value_0,
+    field_pattern_value_1, given_parts_0, given_parts_1, pattern_0, pattern_1, pattern_2,
+    pattern_3, pattern_4, pattern_5, pattern_6, pattern_9, pattern_parts_0, pattern_parts_1,
+};
 use source_values::{Stack, Value};
 use std::alloc::Global;
 
@@ -28,7 +35,11 @@ pub(crate) fn build_pattern(alloc: Global, index: usize, values: &mut Stack) -> 
     }
 }
 
-pub(crate) fn build_after_pattern_open(alloc: Global, index: usize, values: &mut Stack) -> Result<Value, NoMem>
+pub(crate) fn build_after_pattern_open(
+    alloc: Global,
+    index: usize,
+    values: &mut Stack,
+) -> Result<Value, NoMem>
     requires { CanBuild N.AfterPatternOpen index (reverse values.old) }
     ensures { IfOk result (λ it. IsBuilt N.AfterPatternOpen index (reverse values.old) it (reverse values.new)) }
 {
@@ -39,7 +50,11 @@ pub(crate) fn build_after_pattern_open(alloc: Global, index: usize, values: &mut
     }
 }
 
-pub(crate) fn build_after_pattern(alloc: Global, index: usize, values: &mut Stack) -> Result<Value, NoMem>
+pub(crate) fn build_after_pattern(
+    alloc: Global,
+    index: usize,
+    values: &mut Stack,
+) -> Result<Value, NoMem>
     requires { CanBuild N.AfterPattern index (reverse values.old) }
     ensures { IfOk result (λ it. IsBuilt N.AfterPattern index (reverse values.old) it (reverse values.new)) }
 {
@@ -50,7 +65,11 @@ pub(crate) fn build_after_pattern(alloc: Global, index: usize, values: &mut Stac
     }
 }
 
-pub(crate) fn build_field_pattern(alloc: Global, index: usize, values: &mut Stack) -> Result<Value, NoMem>
+pub(crate) fn build_field_pattern(
+    alloc: Global,
+    index: usize,
+    values: &mut Stack,
+) -> Result<Value, NoMem>
     requires { CanBuild N.FieldPattern index (reverse values.old) }
     ensures { IfOk result (λ it. IsBuilt N.FieldPattern index (reverse values.old) it (reverse values.new)) }
 {
@@ -71,7 +90,11 @@ pub(crate) fn build_field_pattern_value(index: usize, values: &mut Stack) -> Res
     }
 }
 
-pub(crate) fn build_pattern_parts(alloc: Global, index: usize, values: &mut Stack) -> Result<Value, NoMem>
+pub(crate) fn build_pattern_parts(
+    alloc: Global,
+    index: usize,
+    values: &mut Stack,
+) -> Result<Value, NoMem>
     requires { CanBuild N.PatternParts index (reverse values.old) }
     ensures { IfOk result (λ it. IsBuilt N.PatternParts index (reverse values.old) it (reverse values.new)) }
 {
@@ -129,7 +152,11 @@ pub(crate) fn build_after_pattern_std(index: usize, values: &mut Stack) -> Resul
     }
 }
 
-pub(crate) fn build_after_pattern_colons(alloc: Global, index: usize, values: &mut Stack) -> Result<Value, NoMem>
+pub(crate) fn build_after_pattern_colons(
+    alloc: Global,
+    index: usize,
+    values: &mut Stack,
+) -> Result<Value, NoMem>
     requires { CanBuild N.AfterPatternColons index (reverse values.old) }
     ensures { IfOk result (λ it. IsBuilt N.AfterPatternColons index (reverse values.old) it (reverse values.new)) }
 {
@@ -140,7 +167,11 @@ pub(crate) fn build_after_pattern_colons(alloc: Global, index: usize, values: &m
     }
 }
 
-pub(crate) fn build_after_pattern_mem_colons(alloc: Global, index: usize, values: &mut Stack) -> Result<Value, NoMem>
+pub(crate) fn build_after_pattern_mem_colons(
+    alloc: Global,
+    index: usize,
+    values: &mut Stack,
+) -> Result<Value, NoMem>
     requires { CanBuild N.AfterPatternMemColons index (reverse values.old) }
     ensures { IfOk result (λ it. IsBuilt N.AfterPatternMemColons index (reverse values.old) it (reverse values.new)) }
 {
@@ -152,7 +183,11 @@ pub(crate) fn build_after_pattern_mem_colons(alloc: Global, index: usize, values
     }
 }
 
-pub(crate) fn build_after_pattern_std_colons(alloc: Global, index: usize, values: &mut Stack) -> Result<Value, NoMem>
+pub(crate) fn build_after_pattern_std_colons(
+    alloc: Global,
+    index: usize,
+    values: &mut Stack,
+) -> Result<Value, NoMem>
     requires { CanBuild N.AfterPatternStdColons index (reverse values.old) }
     ensures { IfOk result (λ it. IsBuilt N.AfterPatternStdColons index (reverse values.old) it (reverse values.new)) }
 {
@@ -164,7 +199,11 @@ pub(crate) fn build_after_pattern_std_colons(alloc: Global, index: usize, values
     }
 }
 
-pub(crate) fn build_after_pattern_std_mem(alloc: Global, index: usize, values: &mut Stack) -> Result<Value, NoMem>
+pub(crate) fn build_after_pattern_std_mem(
+    alloc: Global,
+    index: usize,
+    values: &mut Stack,
+) -> Result<Value, NoMem>
     requires { CanBuild N.AfterPatternStdMem index (reverse values.old) }
     ensures { IfOk result (λ it. IsBuilt N.AfterPatternStdMem index (reverse values.old) it (reverse values.new)) }
 {

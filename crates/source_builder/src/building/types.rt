@@ -6,7 +6,10 @@ ghost use Rattle.source_values.specs.Stacked.{CanBuild, IsBuilt};
 
 use aen_base::NoMem;
 use source_values::made::items::{variant_body_0, variant_body_1};
-use source_values::made::types::{after_type_1, after_type_open_0, after_type_open_1, borrow_lifetime_0, borrow_lifetime_1, borrow_mut_0, borrow_mut_1, type_0, type_1, type_2, type_3, type_4, type_5};
+use source_values::made::types::{
+    after_type_1, after_type_open_0, after_type_open_1, borrow_lifetime_0, borrow_lifetime_1,
+    borrow_mut_0, borrow_mut_1, type_0, type_1, type_2, type_3, type_4, type_5,
+};
 use source_values::{Stack, Value};
 use std::alloc::Global;
 
@@ -25,7 +28,11 @@ pub(crate) fn build_type(alloc: Global, index: usize, values: &mut Stack) -> Res
     }
 }
 
-pub(crate) fn build_borrow_lifetime(alloc: Global, index: usize, values: &mut Stack) -> Result<Value, NoMem>
+pub(crate) fn build_borrow_lifetime(
+    alloc: Global,
+    index: usize,
+    values: &mut Stack,
+) -> Result<Value, NoMem>
     requires { CanBuild N.BorrowLifetime index (reverse values.old) }
     ensures { IfOk result (λ it. IsBuilt N.BorrowLifetime index (reverse values.old) it (reverse values.new)) }
 {
@@ -47,7 +54,11 @@ pub(crate) fn build_borrow_mut(index: usize, values: &mut Stack) -> Result<Value
     }
 }
 
-pub(crate) fn build_type_arguments(alloc: Global, index: usize, values: &mut Stack) -> Result<Value, NoMem>
+pub(crate) fn build_type_arguments(
+    alloc: Global,
+    index: usize,
+    values: &mut Stack,
+) -> Result<Value, NoMem>
     requires { CanBuild N.TypeArguments index (reverse values.old) }
     ensures { IfOk result (λ it. IsBuilt N.TypeArguments index (reverse values.old) it (reverse values.new)) }
 {
@@ -58,7 +69,11 @@ pub(crate) fn build_type_arguments(alloc: Global, index: usize, values: &mut Sta
     }
 }
 
-pub(crate) fn build_after_type_open(alloc: Global, index: usize, values: &mut Stack) -> Result<Value, NoMem>
+pub(crate) fn build_after_type_open(
+    alloc: Global,
+    index: usize,
+    values: &mut Stack,
+) -> Result<Value, NoMem>
     requires { CanBuild N.AfterTypeOpen index (reverse values.old) }
     ensures { IfOk result (λ it. IsBuilt N.AfterTypeOpen index (reverse values.old) it (reverse values.new)) }
 {
@@ -69,7 +84,11 @@ pub(crate) fn build_after_type_open(alloc: Global, index: usize, values: &mut St
     }
 }
 
-pub(crate) fn build_after_type(alloc: Global, index: usize, values: &mut Stack) -> Result<Value, NoMem>
+pub(crate) fn build_after_type(
+    alloc: Global,
+    index: usize,
+    values: &mut Stack,
+) -> Result<Value, NoMem>
     requires { CanBuild N.AfterType index (reverse values.old) }
     ensures { IfOk result (λ it. IsBuilt N.AfterType index (reverse values.old) it (reverse values.new)) }
 {

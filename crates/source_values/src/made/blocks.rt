@@ -4,9 +4,12 @@ ghost use Rattle.std.specs.Prelude.{◌≡◌, reverse, IfOk};
 ghost use Rattle.source_grammar.specs.declared.part.Part.TheVariants as N;
 ghost use Rattle.source_values.specs.Stacked.{CanBuild, IsBuilt};
 
-use aen_base::NoMem;
-use crate::taking::{take_arm_body, take_arms, take_block, take_body, take_conditional, take_expr, take_mark, take_maybe_body, take_maybe_expr, take_maybe_written, take_pat, take_token};
+use crate::taking::{
+    take_arm_body, take_arms, take_block, take_body, take_conditional, take_expr, take_mark,
+    take_maybe_body, take_maybe_expr, take_maybe_written, take_pat, take_token,
+};
 use crate::value::{Stack, Value};
+use aen_base::NoMem;
 use source_ways::blocks;
 use source_ways::front_list::FrontList;
 use source_ways::spanned::Spanned;
@@ -43,7 +46,10 @@ pub fn statements_1(values: &mut Stack) -> Value
 {
     let body = take_body(values);
     let extent = join(body.extent, None);
-    Value::Body(Spanned { value: body.value, extent })
+    Value::Body(Spanned {
+        value: body.value,
+        extent,
+    })
 }
 
 /// `MoreStatements` of: Semicolon Statements.
@@ -54,7 +60,10 @@ pub fn more_statements_0(values: &mut Stack) -> Value
     let body = take_body(values);
     let mark = take_mark(values);
     let extent = join(Some(mark), join(body.extent, None));
-    Value::Body(Spanned { value: body.value, extent })
+    Value::Body(Spanned {
+        value: body.value,
+        extent,
+    })
 }
 
 /// `MoreStatements` of: Let Pattern LetType LetValue Semicolon Statements. The only error is want of memory.
@@ -68,8 +77,29 @@ pub fn more_statements_1(alloc: Global, values: &mut Stack) -> Result<Value, NoM
     let ty = take_maybe_written(values);
     let pat = take_pat(values);
     let word = take_token(values);
-    let extent = join(Some(word.span), join(pat.extent, join(ty.extent, join(value.extent, join(Some(semicolon.span), join(rest.extent, None))))));
-    let value = blocks::let_statement(alloc, span_of(extent), word, pat, ty, value, semicolon, rest)?;
+    let extent = join(
+        Some(word.span),
+        join(
+            pat.extent,
+            join(
+                ty.extent,
+                join(
+                    value.extent,
+                    join(Some(semicolon.span), join(rest.extent, None)),
+                ),
+            ),
+        ),
+    );
+    let value = blocks::let_statement(
+        alloc,
+        span_of(extent),
+        word,
+        pat,
+        ty,
+        value,
+        semicolon,
+        rest,
+    )?;
     Ok(Value::Body(Spanned { value, extent }))
 }
 
@@ -171,7 +201,10 @@ pub fn block_like_1(values: &mut Stack) -> Value
 {
     let e = take_expr(values);
     let extent = join(e.extent, None);
-    Value::Expr(Spanned { value: e.value, extent })
+    Value::Expr(Spanned {
+        value: e.value,
+        extent,
+    })
 }
 
 /// `BlockLike` of: Match Expression(Condition) OpenBrace Arms. The only error is want of memory.
@@ -183,7 +216,13 @@ pub fn block_like_2(alloc: Global, values: &mut Stack) -> Result<Value, NoMem>
     let brace = take_token(values);
     let scrutinee = take_expr(values);
     let word = take_token(values);
-    let extent = join(Some(word.span), join(scrutinee.extent, join(Some(brace.span), join(arms.extent, None))));
+    let extent = join(
+        Some(word.span),
+        join(
+            scrutinee.extent,
+            join(Some(brace.span), join(arms.extent, None)),
+        ),
+    );
     let value = blocks::match_expression(alloc, span_of(extent), word, scrutinee, brace, arms)?;
     Ok(Value::Expr(Spanned { value, extent }))
 }
@@ -234,7 +273,13 @@ pub fn after_while_1(values: &mut Stack) -> Value
     let second_mark = take_mark(values);
     let pat = take_pat(values);
     let mark = take_mark(values);
-    let extent = join(Some(mark), join(pat.extent, join(Some(second_mark), join(e.extent, join(body.extent, None)))));
+    let extent = join(
+        Some(mark),
+        join(
+            pat.extent,
+            join(Some(second_mark), join(e.extent, join(body.extent, None))),
+        ),
+    );
     let value = blocks::matches(pat, e, body, None);
     Value::Conditional(Spanned { value, extent })
 }
@@ -275,7 +320,16 @@ pub fn after_if_1(values: &mut Stack) -> Value
     let second_mark = take_mark(values);
     let pat = take_pat(values);
     let mark = take_mark(values);
-    let extent = join(Some(mark), join(pat.extent, join(Some(second_mark), join(e.extent, join(body.extent, join(other.extent, None))))));
+    let extent = join(
+        Some(mark),
+        join(
+            pat.extent,
+            join(
+                Some(second_mark),
+                join(e.extent, join(body.extent, join(other.extent, None))),
+            ),
+        ),
+    );
     let value = blocks::matches(pat, e, body, other.value);
     Value::Conditional(Spanned { value, extent })
 }
@@ -324,5 +378,8 @@ pub fn after_block_arm_0(values: &mut Stack) -> Value
     let arms = take_arms(values);
     let mark = take_mark(values);
     let extent = join(Some(mark), join(arms.extent, None));
-    Value::Arms(Spanned { value: arms.value, extent })
+    Value::Arms(Spanned {
+        value: arms.value,
+        extent,
+    })
 }

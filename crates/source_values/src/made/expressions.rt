@@ -6,17 +6,18 @@ ghost use Rattle.source_values.specs.Stacked.{CanBuild, IsBuilt};
 ghost use Rattle.source_grammar.specs.declared.part.Context.TheVariants as At;
 ghost use Rattle.source_grammar.specs.declared.part.Level.TheVariants as L;
 
-use aen_base::NoMem;
-use crate::taking::{take_after, take_borrowed, take_calling, take_casts, take_expr, take_exprs, take_ident, take_idents, take_mark, take_maybe_expr, take_operations, take_token};
+use crate::taking::{
+    take_after, take_borrowed, take_calling, take_casts, take_expr, take_exprs, take_ident,
+    take_idents, take_mark, take_maybe_expr, take_operations, take_token,
+};
 use crate::value::{Stack, Value};
+use aen_base::NoMem;
 use rust_ast::source::{Expr, ExprNode};
-use source_ways::expressions;
 use source_ways::front_list::FrontList;
-use source_ways::operators;
-use source_ways::path_ways;
 use source_ways::says::ident;
 use source_ways::spanned::Spanned;
 use source_ways::spans::{join, span_of};
+use source_ways::{expressions, operators, path_ways};
 use std::alloc::Global;
 
 /// `LeadingExpression` of: Return Operand. The only error is want of memory.
@@ -50,7 +51,9 @@ pub fn leading_expression_2(values: &mut Stack) -> Value
 {
     let mark = take_mark(values);
     let extent = join(Some(mark), None);
-    let value = Expr { node: ExprNode::GoOn(span_of(extent)) };
+    let value = Expr {
+        node: ExprNode::GoOn(span_of(extent)),
+    };
     Value::Expr(Spanned { value, extent })
 }
 
@@ -107,7 +110,10 @@ pub fn more_casts_1(values: &mut Stack) -> Result<Value, NoMem>
     let more = take_casts(values);
     let ty = take_token(values);
     let word = take_token(values);
-    let extent = join(Some(word.span), join(Some(ty.span), join(more.extent, None)));
+    let extent = join(
+        Some(word.span),
+        join(Some(ty.span), join(more.extent, None)),
+    );
     let value = operators::one_cast(span_of(extent), word, ty, more)?;
     Ok(Value::Casts(Spanned { value, extent }))
 }
@@ -381,7 +387,13 @@ pub fn core_free_6(values: &mut Stack) -> Value
     let new = take_token(values);
     let colons = take_token(values);
     let word = take_token(values);
-    let extent = join(Some(word.span), join(Some(colons.span), join(Some(new.span), join(rest.extent, None))));
+    let extent = join(
+        Some(word.span),
+        join(
+            Some(colons.span),
+            join(Some(new.span), join(rest.extent, None)),
+        ),
+    );
     let value = path_ways::box_new(span_of(extent), word, colons, new, rest);
     Value::Expr(Spanned { value, extent })
 }

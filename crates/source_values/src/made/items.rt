@@ -4,9 +4,13 @@ ghost use Rattle.std.specs.Prelude.{◌≡◌, reverse, IfOk};
 ghost use Rattle.source_grammar.specs.declared.part.Part.TheVariants as N;
 ghost use Rattle.source_values.specs.Stacked.{CanBuild, IsBuilt};
 
-use aen_base::NoMem;
-use crate::taking::{take_block, take_fields, take_generics, take_idents, take_item, take_items, take_mark, take_maybe_written, take_named_fields, take_nothing, take_params, take_token, take_variants, take_written, take_writtens};
+use crate::taking::{
+    take_block, take_fields, take_generics, take_idents, take_item, take_items, take_mark,
+    take_maybe_written, take_named_fields, take_nothing, take_params, take_token, take_variants,
+    take_written, take_writtens,
+};
 use crate::value::{Stack, Value};
+use aen_base::NoMem;
 use source_ways::front_list::FrontList;
 use source_ways::items;
 use source_ways::spanned::Spanned;
@@ -31,7 +35,10 @@ pub fn program_1(values: &mut Stack) -> Value
     let items = take_items(values);
     let mark = take_mark(values);
     let extent = join(Some(mark), join(items.extent, None));
-    Value::Items(Spanned { value: items.value, extent })
+    Value::Items(Spanned {
+        value: items.value,
+        extent,
+    })
 }
 
 /// `Program` of: Item Items. The only error is want of memory.
@@ -58,8 +65,26 @@ pub fn after_hash_0(values: &mut Stack) -> Value
     let third_mark = take_mark(values);
     let second_mark = take_mark(values);
     let mark = take_mark(values);
-    let extent = join(Some(mark), join(Some(second_mark), join(Some(third_mark), join(Some(fourth_mark), join(idents.extent, join(Some(fifth_mark), join(items.extent, None)))))));
-    Value::Items(Spanned { value: items.value, extent })
+    let extent = join(
+        Some(mark),
+        join(
+            Some(second_mark),
+            join(
+                Some(third_mark),
+                join(
+                    Some(fourth_mark),
+                    join(
+                        idents.extent,
+                        join(Some(fifth_mark), join(items.extent, None)),
+                    ),
+                ),
+            ),
+        ),
+    );
+    Value::Items(Spanned {
+        value: items.value,
+        extent,
+    })
 }
 
 /// `AfterHash` of: Attribute Attributed Items. The only error is want of memory.
@@ -84,7 +109,10 @@ pub fn items_1(values: &mut Stack) -> Result<Value, NoMem>
     let item = take_item(values);
     let nothing = take_nothing(values);
     let mark = take_mark(values);
-    let extent = join(Some(mark), join(nothing.extent, join(item.extent, join(items.extent, None))));
+    let extent = join(
+        Some(mark),
+        join(nothing.extent, join(item.extent, join(items.extent, None))),
+    );
     let value = items.value.push(item.value)?;
     Ok(Value::Items(Spanned { value, extent }))
 }
@@ -99,7 +127,16 @@ pub fn attribute_0(values: &mut Stack) -> Value
     let third_mark = take_mark(values);
     let second_mark = take_mark(values);
     let mark = take_mark(values);
-    let extent = join(Some(mark), join(Some(second_mark), join(Some(third_mark), join(idents.extent, join(Some(fourth_mark), None)))));
+    let extent = join(
+        Some(mark),
+        join(
+            Some(second_mark),
+            join(
+                Some(third_mark),
+                join(idents.extent, join(Some(fourth_mark), None)),
+            ),
+        ),
+    );
     let value = ();
     Value::Nothing(Spanned { value, extent })
 }
@@ -113,7 +150,10 @@ pub fn attributed_0(values: &mut Stack) -> Value
     let nothing = take_nothing(values);
     let mark = take_mark(values);
     let extent = join(Some(mark), join(nothing.extent, join(item.extent, None)));
-    Value::Item(Spanned { value: item.value, extent })
+    Value::Item(Spanned {
+        value: item.value,
+        extent,
+    })
 }
 
 /// `Attributed` of: Pub Declaration.
@@ -124,7 +164,10 @@ pub fn attributed_1(values: &mut Stack) -> Value
     let item = take_item(values);
     let mark = take_mark(values);
     let extent = join(Some(mark), join(item.extent, None));
-    Value::Item(Spanned { value: item.value, extent })
+    Value::Item(Spanned {
+        value: item.value,
+        extent,
+    })
 }
 
 /// `Attributed` of: Declaration.
@@ -134,7 +177,10 @@ pub fn attributed_2(values: &mut Stack) -> Value
 {
     let item = take_item(values);
     let extent = join(item.extent, None);
-    Value::Item(Spanned { value: item.value, extent })
+    Value::Item(Spanned {
+        value: item.value,
+        extent,
+    })
 }
 
 /// `Item` of: Use Std Colons Mem Semicolon.
@@ -147,7 +193,16 @@ pub fn item_2(values: &mut Stack) -> Value
     let third_mark = take_mark(values);
     let second_mark = take_mark(values);
     let mark = take_mark(values);
-    let extent = join(Some(mark), join(Some(second_mark), join(Some(third_mark), join(Some(fourth_mark), join(Some(fifth_mark), None)))));
+    let extent = join(
+        Some(mark),
+        join(
+            Some(second_mark),
+            join(
+                Some(third_mark),
+                join(Some(fourth_mark), join(Some(fifth_mark), None)),
+            ),
+        ),
+    );
     let value = items::use_mem();
     Value::Item(Spanned { value, extent })
 }
@@ -164,8 +219,30 @@ pub fn declaration_0(alloc: Global, values: &mut Stack) -> Result<Value, NoMem>
     let generics = take_generics(values);
     let name = take_token(values);
     let word = take_token(values);
-    let extent = join(Some(word.span), join(Some(name.span), join(generics.extent, join(Some(bracket.span), join(params.extent, join(output.extent, join(body.extent, None)))))));
-    let value = items::function(alloc, span_of(extent), word, name, generics, bracket, params, output, body)?;
+    let extent = join(
+        Some(word.span),
+        join(
+            Some(name.span),
+            join(
+                generics.extent,
+                join(
+                    Some(bracket.span),
+                    join(params.extent, join(output.extent, join(body.extent, None))),
+                ),
+            ),
+        ),
+    );
+    let value = items::function(
+        alloc,
+        span_of(extent),
+        word,
+        name,
+        generics,
+        bracket,
+        params,
+        output,
+        body,
+    )?;
     Ok(Value::Item(Spanned { value, extent }))
 }
 
@@ -178,7 +255,13 @@ pub fn declaration_1(alloc: Global, values: &mut Stack) -> Result<Value, NoMem>
     let params = take_idents(values);
     let name = take_token(values);
     let word = take_token(values);
-    let extent = join(Some(word.span), join(Some(name.span), join(params.extent, join(fields.extent, None))));
+    let extent = join(
+        Some(word.span),
+        join(
+            Some(name.span),
+            join(params.extent, join(fields.extent, None)),
+        ),
+    );
     let value = items::structure(alloc, span_of(extent), word, name, params, fields)?;
     Ok(Value::Item(Spanned { value, extent }))
 }
@@ -193,7 +276,16 @@ pub fn declaration_2(alloc: Global, values: &mut Stack) -> Result<Value, NoMem>
     let params = take_idents(values);
     let name = take_token(values);
     let word = take_token(values);
-    let extent = join(Some(word.span), join(Some(name.span), join(params.extent, join(Some(brace.span), join(variants.extent, None)))));
+    let extent = join(
+        Some(word.span),
+        join(
+            Some(name.span),
+            join(
+                params.extent,
+                join(Some(brace.span), join(variants.extent, None)),
+            ),
+        ),
+    );
     let value = items::enumeration(alloc, span_of(extent), word, name, params, brace, variants)?;
     Ok(Value::Item(Spanned { value, extent }))
 }
@@ -216,7 +308,10 @@ pub fn generics_1(values: &mut Stack) -> Value
     let generics = take_generics(values);
     let mark = take_mark(values);
     let extent = join(Some(mark), join(generics.extent, None));
-    Value::Generics(Spanned { value: generics.value, extent })
+    Value::Generics(Spanned {
+        value: generics.value,
+        extent,
+    })
 }
 
 /// `Lifetimes` of: Greater.
@@ -272,7 +367,10 @@ pub fn type_parameters_1(values: &mut Stack) -> Value
     let names = take_idents(values);
     let mark = take_mark(values);
     let extent = join(Some(mark), join(names.extent, None));
-    Value::Idents(Spanned { value: names.value, extent })
+    Value::Idents(Spanned {
+        value: names.value,
+        extent,
+    })
 }
 
 /// `Parameter` of: Mut Identifier Colon Type. The only error is want of memory.
@@ -284,7 +382,13 @@ pub fn parameter_0(alloc: Global, values: &mut Stack) -> Result<Value, NoMem>
     let second_mark = take_mark(values);
     let name = take_token(values);
     let mark = take_mark(values);
-    let extent = join(Some(mark), join(Some(name.span), join(Some(second_mark), join(ty.extent, None))));
+    let extent = join(
+        Some(mark),
+        join(
+            Some(name.span),
+            join(Some(second_mark), join(ty.extent, None)),
+        ),
+    );
     let value = items::parameter(alloc, true, name, ty)?;
     Ok(Value::Param(Spanned { value, extent }))
 }
@@ -344,7 +448,10 @@ pub fn struct_body_1(values: &mut Stack) -> Value
     let semicolon = take_token(values);
     let types = take_writtens(values);
     let bracket = take_token(values);
-    let extent = join(Some(bracket.span), join(types.extent, join(Some(semicolon.span), None)));
+    let extent = join(
+        Some(bracket.span),
+        join(types.extent, join(Some(semicolon.span), None)),
+    );
     let value = items::brackets(span_of(extent), bracket, types, semicolon);
     Value::Fields(Spanned { value, extent })
 }
@@ -369,7 +476,13 @@ pub fn field_0(alloc: Global, values: &mut Stack) -> Result<Value, NoMem>
     let second_mark = take_mark(values);
     let name = take_token(values);
     let mark = take_mark(values);
-    let extent = join(Some(mark), join(Some(name.span), join(Some(second_mark), join(ty.extent, None))));
+    let extent = join(
+        Some(mark),
+        join(
+            Some(name.span),
+            join(Some(second_mark), join(ty.extent, None)),
+        ),
+    );
     let value = items::field(alloc, name, ty)?;
     Ok(Value::Field(Spanned { value, extent }))
 }
@@ -395,7 +508,10 @@ pub fn tuple_field_0(values: &mut Stack) -> Value
     let ty = take_written(values);
     let mark = take_mark(values);
     let extent = join(Some(mark), join(ty.extent, None));
-    Value::Written(Spanned { value: ty.value, extent })
+    Value::Written(Spanned {
+        value: ty.value,
+        extent,
+    })
 }
 
 /// `TupleField` of: Type.
@@ -405,7 +521,10 @@ pub fn tuple_field_1(values: &mut Stack) -> Value
 {
     let ty = take_written(values);
     let extent = join(ty.extent, None);
-    Value::Written(Spanned { value: ty.value, extent })
+    Value::Written(Spanned {
+        value: ty.value,
+        extent,
+    })
 }
 
 /// `Variant` of: Identifier VariantBody. The only error is want of memory.
@@ -438,5 +557,8 @@ pub fn variant_body_1(values: &mut Stack) -> Value
     let tys = take_writtens(values);
     let mark = take_mark(values);
     let extent = join(Some(mark), join(tys.extent, None));
-    Value::Writtens(Spanned { value: tys.value, extent })
+    Value::Writtens(Spanned {
+        value: tys.value,
+        extent,
+    })
 }

@@ -5,9 +5,13 @@ ghost use Rattle.source_grammar.specs.declared.part.Part.TheVariants as N;
 ghost use Rattle.source_values.specs.Stacked.{CanBuild, IsBuilt};
 ghost use Rattle.source_grammar.specs.declared.part.Listed.TheVariants as Of;
 
-use aen_base::NoMem;
-use crate::taking::{take_exprs, take_field, take_field_pat, take_field_pats, take_idents, take_initial, take_initials, take_mark, take_named_fields, take_param, take_params, take_pats, take_token, take_variant, take_variants};
+use crate::taking::{
+    take_exprs, take_field, take_field_pat, take_field_pats, take_idents, take_initial,
+    take_initials, take_mark, take_named_fields, take_param, take_params, take_pats, take_token,
+    take_variant, take_variants,
+};
 use crate::value::{Stack, Value};
+use aen_base::NoMem;
 use source_ways::front_list::FrontList;
 use source_ways::says::ident;
 use source_ways::spanned::Spanned;
@@ -160,7 +164,10 @@ pub fn list_rest_parameters_1(values: &mut Stack) -> Value
     let more = take_params(values);
     let mark = take_mark(values);
     let extent = join(Some(mark), join(more.extent, None));
-    Value::Params(Spanned { value: more.value, extent })
+    Value::Params(Spanned {
+        value: more.value,
+        extent,
+    })
 }
 
 /// `ListRest(Fields)` of: Comma List(Fields).
@@ -171,7 +178,10 @@ pub fn list_rest_fields_1(values: &mut Stack) -> Value
     let more = take_named_fields(values);
     let mark = take_mark(values);
     let extent = join(Some(mark), join(more.extent, None));
-    Value::NamedFields(Spanned { value: more.value, extent })
+    Value::NamedFields(Spanned {
+        value: more.value,
+        extent,
+    })
 }
 
 /// `ListRest(Variants)` of: Comma List(Variants).
@@ -182,7 +192,10 @@ pub fn list_rest_variants_1(values: &mut Stack) -> Value
     let more = take_variants(values);
     let mark = take_mark(values);
     let extent = join(Some(mark), join(more.extent, None));
-    Value::Variants(Spanned { value: more.value, extent })
+    Value::Variants(Spanned {
+        value: more.value,
+        extent,
+    })
 }
 
 /// `ListRest(Arguments)` of: Comma List(Arguments).
@@ -193,7 +206,10 @@ pub fn list_rest_arguments_1(values: &mut Stack) -> Value
     let more = take_exprs(values);
     let mark = take_mark(values);
     let extent = join(Some(mark), join(more.extent, None));
-    Value::Exprs(Spanned { value: more.value, extent })
+    Value::Exprs(Spanned {
+        value: more.value,
+        extent,
+    })
 }
 
 /// `ListRest(Initials)` of: Comma List(Initials).
@@ -204,7 +220,10 @@ pub fn list_rest_initials_1(values: &mut Stack) -> Value
     let more = take_initials(values);
     let mark = take_mark(values);
     let extent = join(Some(mark), join(more.extent, None));
-    Value::Initials(Spanned { value: more.value, extent })
+    Value::Initials(Spanned {
+        value: more.value,
+        extent,
+    })
 }
 
 /// `ListRest(Patterns)` of: Comma List(Patterns).
@@ -215,7 +234,10 @@ pub fn list_rest_patterns_1(values: &mut Stack) -> Value
     let more = take_pats(values);
     let mark = take_mark(values);
     let extent = join(Some(mark), join(more.extent, None));
-    Value::Pats(Spanned { value: more.value, extent })
+    Value::Pats(Spanned {
+        value: more.value,
+        extent,
+    })
 }
 
 /// `ListRest(FieldPatterns)` of: Comma List(FieldPatterns).
@@ -226,5 +248,8 @@ pub fn list_rest_field_patterns_1(values: &mut Stack) -> Value
     let more = take_field_pats(values);
     let mark = take_mark(values);
     let extent = join(Some(mark), join(more.extent, None));
-    Value::FieldPats(Spanned { value: more.value, extent })
+    Value::FieldPats(Spanned {
+        value: more.value,
+        extent,
+    })
 }

@@ -5,9 +5,12 @@ ghost use Rattle.source_grammar.specs.declared.part.Part.TheVariants as N;
 ghost use Rattle.source_values.specs.Stacked.{CanBuild, IsBuilt};
 ghost use Rattle.source_grammar.specs.declared.part.Context.TheVariants as At;
 
-use aen_base::NoMem;
-use crate::taking::{take_after, take_calling, take_expr, take_exprs, take_further, take_in_mem, take_initials, take_mark, take_nothing, take_token, take_writtens};
+use crate::taking::{
+    take_after, take_calling, take_expr, take_exprs, take_further, take_in_mem, take_initials,
+    take_mark, take_nothing, take_token, take_writtens,
+};
 use crate::value::{Stack, Value};
+use aen_base::NoMem;
 use source_ways::path_ways;
 use source_ways::paths::InMem;
 use source_ways::spanned::Spanned;
@@ -44,7 +47,10 @@ pub fn after_std_mem_2(values: &mut Stack) -> Value
     let rest = take_in_mem(values);
     let mark = take_mark(values);
     let extent = join(Some(mark), join(rest.extent, None));
-    Value::InMem(Spanned { value: rest.value, extent })
+    Value::InMem(Spanned {
+        value: rest.value,
+        extent,
+    })
 }
 
 /// `AfterStdMemColons` of: Less List(TypesInAngles) OpenBracket List(Arguments).
@@ -56,7 +62,13 @@ pub fn after_std_mem_colons_0(values: &mut Stack) -> Value
     let second_mark = take_mark(values);
     let tys = take_writtens(values);
     let mark = take_mark(values);
-    let extent = join(Some(mark), join(tys.extent, join(Some(second_mark), join(exprs.extent, None))));
+    let extent = join(
+        Some(mark),
+        join(
+            tys.extent,
+            join(Some(second_mark), join(exprs.extent, None)),
+        ),
+    );
     let value = InMem::Second(path_ways::call_with_types(tys, exprs));
     Value::InMem(Spanned { value, extent })
 }
@@ -105,7 +117,13 @@ pub fn after_path_2(values: &mut Stack) -> Value
     let tys = take_writtens(values);
     let second_mark = take_mark(values);
     let mark = take_mark(values);
-    let extent = join(Some(mark), join(Some(second_mark), join(tys.extent, join(Some(third_mark), join(exprs.extent, None)))));
+    let extent = join(
+        Some(mark),
+        join(
+            Some(second_mark),
+            join(tys.extent, join(Some(third_mark), join(exprs.extent, None))),
+        ),
+    );
     let value = path_ways::call_with_types(tys, exprs);
     Value::Calling(Spanned { value, extent })
 }
@@ -162,7 +180,10 @@ pub fn after_name_free_1(values: &mut Stack) -> Value
 {
     let rest = take_after(values);
     let extent = join(rest.extent, None);
-    Value::After(Spanned { value: rest.value, extent })
+    Value::After(Spanned {
+        value: rest.value,
+        extent,
+    })
 }
 
 /// `AfterPanic(Free)` of: Not OpenBracket Message.
@@ -173,7 +194,10 @@ pub fn after_panic_free_2(values: &mut Stack) -> Value
     let nothing = take_nothing(values);
     let second_mark = take_mark(values);
     let mark = take_mark(values);
-    let extent = join(Some(mark), join(Some(second_mark), join(nothing.extent, None)));
+    let extent = join(
+        Some(mark),
+        join(Some(second_mark), join(nothing.extent, None)),
+    );
     let value = path_ways::panics();
     Value::After(Spanned { value, extent })
 }
@@ -187,7 +211,13 @@ pub fn after_assert_free_2(values: &mut Stack) -> Value
     let condition = take_expr(values);
     let bracket = take_token(values);
     let mark = take_token(values);
-    let extent = join(Some(mark.span), join(Some(bracket.span), join(condition.extent, join(rest.extent, None))));
+    let extent = join(
+        Some(mark.span),
+        join(
+            Some(bracket.span),
+            join(condition.extent, join(rest.extent, None)),
+        ),
+    );
     let value = path_ways::asserts(span_of(extent), mark, bracket, condition, rest);
     Value::After(Spanned { value, extent })
 }
@@ -211,7 +241,10 @@ pub fn after_mem_free_2(values: &mut Stack) -> Value
     let rest = take_after(values);
     let mark = take_mark(values);
     let extent = join(Some(mark), join(rest.extent, None));
-    Value::After(Spanned { value: rest.value, extent })
+    Value::After(Spanned {
+        value: rest.value,
+        extent,
+    })
 }
 
 /// `Applied(Free)` of: OpenBracket List(Arguments).
@@ -294,7 +327,10 @@ pub fn after_turbo_free_0(values: &mut Stack) -> Value
 {
     let more = take_further(values);
     let extent = join(more.extent, None);
-    Value::Further(Spanned { value: more.value, extent })
+    Value::Further(Spanned {
+        value: more.value,
+        extent,
+    })
 }
 
 /// `AfterTurbo(Free)` of: Colons Identifier AfterPath. The only error is want of memory.
@@ -305,7 +341,10 @@ pub fn after_turbo_free_1(alloc: Global, values: &mut Stack) -> Result<Value, No
     let rest = take_calling(values);
     let name = take_token(values);
     let colons = take_token(values);
-    let extent = join(Some(colons.span), join(Some(name.span), join(rest.extent, None)));
+    let extent = join(
+        Some(colons.span),
+        join(Some(name.span), join(rest.extent, None)),
+    );
     let value = path_ways::later_name(alloc, span_of(extent), colons, name, rest)?;
     Ok(Value::Further(Spanned { value, extent }))
 }

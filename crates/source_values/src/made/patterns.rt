@@ -4,9 +4,12 @@ ghost use Rattle.std.specs.Prelude.{◌≡◌, reverse, IfOk};
 ghost use Rattle.source_grammar.specs.declared.part.Part.TheVariants as N;
 ghost use Rattle.source_values.specs.Stacked.{CanBuild, IsBuilt};
 
-use aen_base::NoMem;
-use crate::taking::{take_after_mem, take_after_name, take_field_pats, take_given, take_mark, take_maybe_pat, take_pat, take_pats, take_token, take_writtens};
+use crate::taking::{
+    take_after_mem, take_after_name, take_field_pats, take_given, take_mark, take_maybe_pat,
+    take_pat, take_pats, take_token, take_writtens,
+};
 use crate::value::{Stack, Value};
+use aen_base::NoMem;
 use rust_ast::source_patterns::{Pat, PatNode};
 use source_ways::constructors::{AfterMem, AfterName, Given};
 use source_ways::front_list::FrontList;
@@ -22,7 +25,9 @@ pub fn pattern_0(values: &mut Stack) -> Value
 {
     let mark = take_mark(values);
     let extent = join(Some(mark), None);
-    let value = Pat { node: PatNode::Wild(span_of(extent)) };
+    let value = Pat {
+        node: PatNode::Wild(span_of(extent)),
+    };
     Value::Pat(Spanned { value, extent })
 }
 
@@ -105,7 +110,13 @@ pub fn pattern_9(values: &mut Stack) -> Value
     let new = take_token(values);
     let colons = take_token(values);
     let word = take_token(values);
-    let extent = join(Some(word.span), join(Some(colons.span), join(Some(new.span), join(parts.extent, None))));
+    let extent = join(
+        Some(word.span),
+        join(
+            Some(colons.span),
+            join(Some(new.span), join(parts.extent, None)),
+        ),
+    );
     let value = patterns::box_new_pattern(span_of(extent), word, colons, new, parts);
     Value::Pat(Spanned { value, extent })
 }
@@ -197,7 +208,10 @@ pub fn pattern_parts_1(values: &mut Stack) -> Value
 {
     let parts = take_given(values);
     let extent = join(parts.extent, None);
-    Value::Given(Spanned { value: parts.value, extent })
+    Value::Given(Spanned {
+        value: parts.value,
+        extent,
+    })
 }
 
 /// `GivenParts` of: OpenBracket List(Patterns).
@@ -253,7 +267,10 @@ pub fn after_pattern_name_2(values: &mut Stack) -> Value
     let rest = take_after_name(values);
     let mark = take_mark(values);
     let extent = join(Some(mark), join(rest.extent, None));
-    Value::AfterName(Spanned { value: rest.value, extent })
+    Value::AfterName(Spanned {
+        value: rest.value,
+        extent,
+    })
 }
 
 /// `AfterPatternColons` of: Less List(TypesInAngles) Colons Identifier PatternParts. The only error is want of memory.
@@ -266,8 +283,25 @@ pub fn after_pattern_colons_0(alloc: Global, values: &mut Stack) -> Result<Value
     let colons = take_token(values);
     let types = take_writtens(values);
     let less = take_token(values);
-    let extent = join(Some(less.span), join(types.extent, join(Some(colons.span), join(Some(name.span), join(parts.extent, None)))));
-    let value = patterns::second_after_types(alloc, span_of(extent), less, types, colons, name, parts)?;
+    let extent = join(
+        Some(less.span),
+        join(
+            types.extent,
+            join(
+                Some(colons.span),
+                join(Some(name.span), join(parts.extent, None)),
+            ),
+        ),
+    );
+    let value = patterns::second_after_types(
+        alloc,
+        span_of(extent),
+        less,
+        types,
+        colons,
+        name,
+        parts,
+    )?;
     Ok(Value::AfterName(Spanned { value, extent }))
 }
 
@@ -336,7 +370,10 @@ pub fn after_pattern_std_mem_2(values: &mut Stack) -> Value
     let parts = take_given(values);
     let word = take_token(values);
     let colons = take_token(values);
-    let extent = join(Some(colons.span), join(Some(word.span), join(parts.extent, None)));
+    let extent = join(
+        Some(colons.span),
+        join(Some(word.span), join(parts.extent, None)),
+    );
     let value = patterns::std_built_in_name(span_of(extent), colons, word, parts);
     Value::AfterMem(Spanned { value, extent })
 }

@@ -4,9 +4,11 @@ ghost use Rattle.std.specs.Prelude.{◌≡◌, reverse, IfOk};
 ghost use Rattle.source_grammar.specs.declared.part.Part.TheVariants as N;
 ghost use Rattle.source_values.specs.Stacked.{CanBuild, IsBuilt};
 
-use aen_base::NoMem;
-use crate::taking::{take_lifetime, take_mark, take_token, take_truth, take_written, take_writtens};
+use crate::taking::{
+    take_lifetime, take_mark, take_token, take_truth, take_written, take_writtens,
+};
 use crate::value::{Stack, Value};
+use aen_base::NoMem;
 use rust_ast::source_types::{Lifetime, LifetimeNode, Written, WrittenNode};
 use source_ways::front_list::FrontList;
 use source_ways::says::lifetime;
@@ -33,7 +35,9 @@ pub fn type_1(values: &mut Stack) -> Value
 {
     let word = take_mark(values);
     let extent = join(Some(word), None);
-    let value = Written { node: WrittenNode::Bool(span_of(extent)) };
+    let value = Written {
+        node: WrittenNode::Bool(span_of(extent)),
+    };
     Value::Written(Spanned { value, extent })
 }
 
@@ -58,7 +62,10 @@ pub fn type_3(alloc: Global, values: &mut Stack) -> Result<Value, NoMem>
     let mutable = take_truth(values);
     let life = take_lifetime(values);
     let mark = take_token(values);
-    let extent = join(Some(mark.span), join(life.extent, join(mutable.extent, join(ty.extent, None))));
+    let extent = join(
+        Some(mark.span),
+        join(life.extent, join(mutable.extent, join(ty.extent, None))),
+    );
     let value = types::reference_type(alloc, span_of(extent), mark, life, mutable, ty)?;
     Ok(Value::Written(Spanned { value, extent }))
 }
@@ -72,7 +79,13 @@ pub fn type_4(alloc: Global, values: &mut Stack) -> Result<Value, NoMem>
     let ty = take_written(values);
     let less = take_token(values);
     let word = take_token(values);
-    let extent = join(Some(word.span), join(Some(less.span), join(ty.extent, join(Some(greater.span), None))));
+    let extent = join(
+        Some(word.span),
+        join(
+            Some(less.span),
+            join(ty.extent, join(Some(greater.span), None)),
+        ),
+    );
     let value = types::boxed_type(alloc, span_of(extent), word, less, ty, greater)?;
     Ok(Value::Written(Spanned { value, extent }))
 }
@@ -95,7 +108,9 @@ pub fn borrow_lifetime_0(values: &mut Stack) -> Value
     ensures { IsBuilt N.BorrowLifetime 0 (reverse values.old) result (reverse values.new) }
 {
     let extent = None;
-    let value = Lifetime { node: LifetimeNode::Elided };
+    let value = Lifetime {
+        node: LifetimeNode::Elided,
+    };
     Value::Lifetime(Spanned { value, extent })
 }
 
