@@ -43,6 +43,10 @@ pub data ReadsTypes : List Lexeme → List t.Written → Type 0 where
 pub data ReadsCallName : List Lexeme → List ℕ → List t.Written → Type 0 where
   by : (name : Lexeme) (rest : List Lexeme) (tys : List t.Written) → takes T.Identifier name ≡ K.Whole → ReadsTypes rest tys → ReadsCallName (name ∷ rest) (name_in name.content) tys
 
+-- the types after a name, or that lexemes are something else
+abbrev pub AreTypes : List Lexeme → Option (List t.Written) → Type 0
+AreTypes ls o = MatchOption o ((tys : List t.Written) → ReadsTypes ls tys → ⊥) (λ tys. ReadsTypes ls tys)
+
 -- of a text without a lexical fault: its name and types, or that it is none
 abbrev pub IsCallName : List Lexeme → Option Span → Option (List ℕ × List t.Written) → Type 0
 IsCallName ls bad o =

@@ -1,4 +1,4 @@
-ghost use Rattle.std.specs.Prelude.{◌≡◌, ◌↔◌, IsTrue, List, ◌^◌, ◌<◌, length, None, All, IfOk, MatchOption};
+ghost use Rattle.std.specs.Prelude.{◌≡◌, ◌∷◌, ◌↔◌, IsTrue, List, ◌^◌, ◌<◌, length, None, All, IfOk, MatchOption};
 ghost use Rattle.table_reader.specs.declared.take.Take.TheVariants as K;
 ghost use Rattle.source_grammar.specs.Lexemes.{takes};
 ghost use Rattle.source_grammar.specs.declared.part.Part.TheVariants as N;
@@ -45,9 +45,20 @@ pub fn read_call_name(
 fn call_name(alloc: Global, lexemes: &[Lexeme]) -> Result<Option<(Name, List<Written>)>, NoMem>
     ensures { IfOk result (λ o. spec.IsCallName lexemes.now None o) }
 {
-    let [first, rest @ ..] = lexemes else {
-        return Ok(None);
-    };
+    match lexemes {
+        [] => Ok(None),
+        [first, rest @ ..] => named(alloc, first, rest),
+    }
+}
+
+/// The same of a first lexeme and the others.
+fn named(
+    alloc: Global,
+    first: &Lexeme,
+    rest: &[Lexeme],
+) -> Result<Option<(Name, List<Written>)>, NoMem>
+    ensures { IfOk result (λ o. spec.IsCallName (first.now ∷ rest.now) None o) }
+{
     if !is_taken(Terminal::Identifier, first) {
         return Ok(None);
     }
@@ -62,18 +73,41 @@ fn call_name(alloc: Global, lexemes: &[Lexeme]) -> Result<Option<(Name, List<Wri
 
 /// The types after a name; None exactly where lexemes are something else.
 fn types_after_name(alloc: Global, lexemes: &[Lexeme]) -> Result<Option<List<Written>>, NoMem>
-    ensures { IfOk result (λ o. MatchOption o ((tys : List t.Written) → spec.ReadsTypes lexemes.now tys → ⊥) (λ tys. spec.ReadsTypes lexemes.now tys)) }
+    ensures { IfOk result (λ o. spec.AreTypes lexemes.now o) }
 {
     match lexemes {
         [] => Ok(Some(List::new(alloc))),
-        [_] => Ok(None),
-        [colons, less, rest @ ..] => {
-            if !is_taken(Terminal::Colons, colons) || !is_taken(Terminal::Less, less) {
-                return Ok(None);
-            }
-            types_up_to_end(alloc, rest)
-        }
+        [first, rest @ ..] => types_after_colons(alloc, first, rest),
     }
+}
+
+/// The same of a first lexeme and the others.
+fn types_after_colons(
+    alloc: Global,
+    colons: &Lexeme,
+    lexemes: &[Lexeme],
+) -> Result<Option<List<Written>>, NoMem>
+    ensures { IfOk result (λ o. spec.AreTypes (colons.now ∷ lexemes.now) o) }
+{
+    match lexemes {
+        [] => Ok(None),
+        [first, rest @ ..] => types_in_angles(alloc, colons, first, rest),
+    }
+}
+
+/// The same of two lexemes and the others.
+fn types_in_angles(
+    alloc: Global,
+    colons: &Lexeme,
+    less: &Lexeme,
+    lexemes: &[Lexeme],
+) -> Result<Option<List<Written>>, NoMem>
+    ensures { IfOk result (λ o. spec.AreTypes (colons.now ∷ (less.now ∷ lexemes.now)) o) }
+{
+    if !is_taken(Terminal::Colons, colons) || !is_taken(Terminal::Less, less) {
+        return Ok(None);
+    }
+    types_up_to_end(alloc, lexemes)
 }
 
 /// Types up to `>`; None exactly where lexemes are something else.
