@@ -604,7 +604,7 @@ def answers(machine, function):
                 ensured = f"(levels.{LEVELS[function.name]}_built {variables} {old} {new} {result} {ensured})"
             else:
                 out.append((goal, f"let h = {fits} in\n    record {{ value = h.value; below = h.below; makes = h.makes }}"))
-        out.append((f"returns-in-{case}", built + ensured))
+        out.append((f"returns-in-{case}" if len(function.arms) > 1 else "returns", built + ensured))
     if function.name == "build_more":
         out.append(("unreachable-requires", f"levels.no_third {variables} c.args.index {old} (λ (e : c.args.index ≡ 0). omega arith) (λ (e : c.args.index ≡ 1). omega arith) c.requires"))
     return "".join(f"\npub {g} : goal.{g}\n{g} c =\n    {t}\n" for g, t in out)

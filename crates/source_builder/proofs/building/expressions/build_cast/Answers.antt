@@ -9,6 +9,6 @@ leading_cast_0-requires c =
     let h = at_place (N.Cast c.args.context) c.args.index 0 (reverse c.args.values.now) c.in-0.is c.requires in
     record { value = h.value; below = h.below; makes = h.makes }
 
-pub returns-in-0 : goal.returns-in-0
-returns-in-0 c =
+pub returns : goal.returns
+returns c =
     built_at_place (N.Cast c.args.context) c.args.index 0 (reverse c.args.values.now) (reverse c.leading_cast_0.new.values) c.leading_cast_0.result c.in-0.is c.leading_cast_0.ensures

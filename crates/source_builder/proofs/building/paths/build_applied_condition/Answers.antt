@@ -10,6 +10,6 @@ applied_free_0-requires c =
     let h = at_place (N.Applied At.Condition) c.args.index 0 (reverse c.args.values.now) c.in-0.is c.requires in
     record { value = h.value; below = h.below; makes = h.makes }
 
-pub returns-in-0 : goal.returns-in-0
-returns-in-0 c =
+pub returns : goal.returns
+returns c =
     built_at_place (N.Applied At.Condition) c.args.index 0 (reverse c.args.values.now) (reverse c.applied_free_0.new.values) (Ok c.applied_free_0.result) c.in-0.is c.applied_free_0.ensures
