@@ -604,6 +604,8 @@ def answers(machine, function):
                 ensured = f"(levels.{LEVELS[function.name]}_built {variables} {old} {new} {result} {ensured})"
             else:
                 out.append((goal, f"let h = {fits} in\n    record {{ value = h.value; below = h.below; makes = h.makes }}"))
+        elif function.subject == "context":
+            out.append((goal, fits))
         out.append((f"returns-in-{case}" if len(function.arms) > 1 else "returns", built + ensured))
     if function.name == "build_more":
         out.append(("unreachable-requires", f"levels.no_third {variables} c.args.index {old} (λ (e : c.args.index ≡ 0). omega arith) (λ (e : c.args.index ≡ 1). omega arith) c.requires"))
@@ -631,6 +633,7 @@ def write_build(machine, found):
             call = f"{section}::{function.name}({alloc}{given + ', ' if given else ''}index, values)"
             arms.append(f"        Part::{name}{f'({given})' if given else ''} => {call},")
             part = shown_part(name, [f"c.in-{name}.{VARIABLE[v]}" for v in variables])
+            proofs.append((f"{function.name}-requires", f"of_part c.args.part {part} c.args.index (reverse c.args.values.now) c.in-{name}.is c.requires"))
             proofs.append((f"returns-in-{name}", f"built_of_part c.args.part {part} c.args.index (reverse c.args.values.now) "
                            f"(reverse c.{function.name}.new.values) c.{function.name}.result c.in-{name}.is c.{function.name}.ensures"))
     built = "IsBuilt part index (reverse values.old)"
