@@ -66,9 +66,9 @@ empty_is_no_name [] e name tys h = no_name name tys h
 empty_is_no_name (l ∷ ls) e name tys h = absurd (omega (arith, e))
 
 -- no lexemes are no types that are given
-pub empty_is_nothing : (ls : List Lexeme) → length ls < 1 → ReadsTypes ls []
-empty_is_nothing [] e = nothing
-empty_is_nothing (l ∷ ls) e = absurd (omega (arith, e))
+pub empty_is_nothing : (ls : List Lexeme) (tys : List t.Written) → length ls < 1 → tys ≡ [] → ReadsTypes ls tys
+empty_is_nothing [] tys n e = subst (λ (w : List t.Written). ReadsTypes [] w) (sym e) nothing
+empty_is_nothing (l ∷ ls) tys n e = absurd (omega (arith, n))
 
 -- one lexeme gives no types
 one_alone : (colons : Lexeme) (tys : List t.Written) → ReadsTypes (colons ∷ []) tys → ⊥
