@@ -2,7 +2,7 @@ use aen_base::{Name, Span};
 
 /// What the name of an item or of a type parameter may not have in common with another.
 #[derive(Clone, Copy, Debug, PartialEq, Eq)]
-pub enum Kind {
+pub(crate) enum Kind {
     /// An enum, or a struct whose fields have names.
     Type,
     /// A function.
@@ -15,8 +15,8 @@ pub enum Kind {
 
 /// A name that the whole program sees, or a type parameter.
 #[derive(Drop)]
-pub struct Entry {
-    pub name: Name,
-    pub span: Span,
-    pub kind: Kind,
+pub(crate) struct Entry {
+    pub(crate) name: Name,
+    pub(crate) span: Span,
+    pub(crate) kind: Kind,
 }
