@@ -27,6 +27,6 @@ behind done o = on_ok (λ ys. done ++ ys) o
 abbrev pub onward : {B S : Type 0} → List B → Result (List B × S) Span → Result (List B × S) Span
 onward done o = on_ok (λ r. (done ++ r.0, r.1)) o
 
--- a list in another form
-abbrev pub in_form : {B L S : Type 0} → (List B → L) → List B × S → L × S
+-- a thing in another form, with what is known
+abbrev pub in_form : {B L S : Type 0} → (B → L) → B × S → L × S
 in_form f r = (f r.0, r.1)

@@ -13,7 +13,7 @@ use std::alloc::Global;
 
 /// What items declare.
 #[derive(Drop)]
-pub(crate) struct Gathered {
+pub struct Gathered {
     types: List<TypeNames>,
     values: List<ValueNames>,
     mem: bool,

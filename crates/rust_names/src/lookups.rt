@@ -11,7 +11,7 @@ use rust_ast::Ident;
 
 /// What a name means as a type.
 #[derive(Clone, Copy, Debug, PartialEq, Eq)]
-pub(crate) enum TypeMeaning {
+pub enum TypeMeaning {
     /// A type parameter, by its place.
     Parameter(u32),
     /// A declared type.

@@ -20,7 +20,7 @@ use std::alloc::Global;
 
 /// A variant of a declared type, of a struct the variant 0, with the type arguments in its path.
 #[derive(Drop)]
-pub(crate) struct Built {
+pub struct Built {
     pub(crate) id: TypeId,
     pub(crate) variant: u32,
     pub(crate) turbos: Turbos,
@@ -28,7 +28,7 @@ pub(crate) struct Built {
 
 /// What is called, with the type arguments in its path.
 #[derive(Drop)]
-pub(crate) struct Called {
+pub struct Called {
     pub(crate) callee: Callee,
     pub(crate) turbos: Turbos,
 }

@@ -11,7 +11,7 @@ use std::alloc::Global;
 
 /// What is known where a part of a body stands.
 #[derive(Drop)]
-pub(crate) struct State {
+pub struct State {
     /// The names in scope with their variables, the newest last.
     pub(crate) scope: Scope,
     /// The function's variables so far, by number.

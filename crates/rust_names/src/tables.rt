@@ -5,7 +5,7 @@ use aen_base::{Name, TypeId};
 
 /// A declared type as uses see it.
 #[derive(Drop)]
-pub(crate) struct TypeNames {
+pub struct TypeNames {
     pub(crate) name: Name,
     pub(crate) is_struct: bool,
     /// The names of an enum's variants; a struct has none.
@@ -22,7 +22,7 @@ impl Named for TypeNames {
 
 /// What a name of the space of functions and structs means.
 #[derive(Clone, Copy, Debug, PartialEq, Eq)]
-pub(crate) enum Meaning {
+pub enum Meaning {
     /// A function, by its number.
     Function(u32),
     /// A struct without fields.
@@ -35,7 +35,7 @@ pub(crate) enum Meaning {
 
 /// A function or a struct as uses see it.
 #[derive(Drop)]
-pub(crate) struct ValueNames {
+pub struct ValueNames {
     pub(crate) name: Name,
     pub(crate) meaning: Meaning,
 }
@@ -50,7 +50,7 @@ impl Named for ValueNames {
 
 /// What a program declares, as uses see it.
 #[derive(Drop)]
-pub(crate) struct Tables {
+pub struct Tables {
     /// The declared types in source order.
     pub(crate) types: ByName<TypeNames>,
     /// The functions and structs in source order.
@@ -61,7 +61,7 @@ pub(crate) struct Tables {
 
 /// What an item declares for its own types.
 #[derive(Drop)]
-pub(crate) struct Generics {
+pub struct Generics {
     pub(crate) lifetimes: ByName<Name>,
     pub(crate) type_params: ByName<Name>,
 }

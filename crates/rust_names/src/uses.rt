@@ -1,6 +1,6 @@
 //! Expressions, statements and blocks with names resolved.
 
-ghost use Rattle.std.specs.Prelude.{◌≡◌, length, IfOk};
+ghost use Rattle.std.specs.Prelude.{◌≡◌, false, length, IfOk};
 ghost use Rattle.rust_ast.specs.Resolved as resolved;
 ghost use Rattle.rust_ast.specs.Source as source;
 ghost use Rattle.rust_names.specs.Gives.{Gives, GivesAs};
@@ -22,7 +22,7 @@ use rust_ast::source;
 use rust_ast::source_patterns;
 use std::alloc::Global;
 
-/// An expression.
+/// An expression with names resolved, and what is known after it.
 #[cycle(uses)]
 pub(crate) fn resolve_expr(
     alloc: Global,
@@ -33,29 +33,37 @@ pub(crate) fn resolve_expr(
 ) -> Result<(Expr, State), Stop>
     ensures { Gives (spec.read tables.now generics.now e.now state) result }
 {
-    let (node, state) = match &e.node {
+    match &e.node {
         source::ExprNode::Number(span, negative, magnitude, suffix) => {
-            (ExprNode::Number(*span, *negative, *magnitude, *suffix), state)
+            let node = ExprNode::Number(*span, *negative, *magnitude, *suffix);
+            Ok((Expr { node }, state))
         }
-        source::ExprNode::Truth(span, value) => (ExprNode::Truth(*span, *value), state),
+        source::ExprNode::Truth(span, value) => {
+            let node = ExprNode::Truth(*span, *value);
+            Ok((Expr { node }, state))
+        }
         source::ExprNode::Tuple(span, parts) => {
             let (parts, state) = resolve_all(alloc, tables, generics, parts.as_slice(), state)?;
-            (ExprNode::Tuple(*span, parts), state)
+            let node = ExprNode::Tuple(*span, parts);
+            Ok((Expr { node }, state))
         }
         source::ExprNode::Inner(block) => {
-            let (block, state) = resolve_block(alloc, tables, generics, block.get(), state)?;
-            (ExprNode::Inner(Boxed::new(alloc, block)?), state)
+            let (block, state) = boxed_block(alloc, tables, generics, block.get(), state)?;
+            let node = ExprNode::Inner(block);
+            Ok((Expr { node }, state))
         }
         source::ExprNode::Branch(span, condition, yes, no) => {
             let (condition, state) = one(alloc, tables, generics, condition.get(), state)?;
-            let (yes, state) = resolve_block(alloc, tables, generics, yes.get(), state)?;
+            let (yes, state) = boxed_block(alloc, tables, generics, yes.get(), state)?;
             let (no, state) = one(alloc, tables, generics, no.get(), state)?;
-            (ExprNode::Branch(*span, condition, Boxed::new(alloc, yes)?, no), state)
+            let node = ExprNode::Branch(*span, condition, yes, no);
+            Ok((Expr { node }, state))
         }
         source::ExprNode::Select(span, scrutinee, arms) => {
             let (scrutinee, state) = one(alloc, tables, generics, scrutinee.get(), state)?;
             let (arms, state) = resolve_arms(alloc, tables, generics, arms.as_slice(), state)?;
-            (ExprNode::Select(*span, scrutinee, arms), state)
+            let node = ExprNode::Select(*span, scrutinee, arms);
+            Ok((Expr { node }, state))
         }
         source::ExprNode::LetBranch(span, pat, scrutinee, yes, no) => {
             let from = state.variables.len();
@@ -67,19 +75,23 @@ pub(crate) fn resolve_expr(
             let (yes, state) = resolve_expr(alloc, tables, generics, yes.get(), state)?;
             let state = state.leave(count)?;
             let (no, state) = resolve_expr(alloc, tables, generics, no.get(), state)?;
-            let arms = two_arms(alloc, *span, pat, yes, no)?;
-            (ExprNode::Select(*span, scrutinee, arms), state)
+            let select = two_arms(alloc, *span, scrutinee, pat, yes, no)?;
+            Ok((select, state))
         }
         source::ExprNode::Forever(span, is_while, body) => {
             let number = state.loops;
-            let (body, state) =
-                resolve_block(alloc, tables, generics, body.get(), state.with_loop()?)?;
-            (ExprNode::Forever(*span, number, *is_while, Boxed::new(alloc, body)?), state)
+            let state = state.with_loop()?;
+            let (body, state) = boxed_block(alloc, tables, generics, body.get(), state)?;
+            let node = ExprNode::Forever(*span, number, *is_while, body);
+            Ok((Expr { node }, state))
         }
-        source::ExprNode::Panic(span) => (ExprNode::Panic(*span), state),
+        source::ExprNode::Panic(span) => {
+            let node = ExprNode::Panic(*span);
+            Ok((Expr { node }, state))
+        }
         source::ExprNode::Path(span, path) => {
             let value = value_path(alloc, tables, generics, &state.scope, *span, path)?;
-            return Ok((value, state));
+            Ok((value, state))
         }
         source::ExprNode::Call(span, path, turbo, arguments) => {
             let called = called_path(alloc, tables, generics, path)?;
@@ -87,80 +99,124 @@ pub(crate) fn resolve_expr(
             let (arguments, state) =
                 resolve_all(alloc, tables, generics, arguments.as_slice(), state)?;
             let turbos = beside(called.turbos, turbo);
-            (ExprNode::Call(*span, called.callee, turbos, arguments), state)
+            let node = ExprNode::Call(*span, called.callee, turbos, arguments);
+            Ok((Expr { node }, state))
         }
         source::ExprNode::Literal(span, name, turbo, values) => {
             let id = struct_of(tables, name)?;
             let turbos = turbos(alloc, tables, generics, turbo)?;
-            let (values, state) =
-                resolve_inits(alloc, tables, generics, values.as_slice(), state)?;
-            (ExprNode::Literal(*span, id, 0, turbos, values), state)
+            let (values, state) = resolve_inits(alloc, tables, generics, values.as_slice(), state)?;
+            let node = ExprNode::Literal(*span, id, 0, turbos, values);
+            Ok((Expr { node }, state))
         }
         source::ExprNode::Field(span, a, place, name) => {
             let (a, state) = one(alloc, tables, generics, a.get(), state)?;
-            (ExprNode::Field(*span, a, *place, name.try_clone(alloc)?), state)
+            let name = name.try_clone(alloc)?;
+            let node = ExprNode::Field(*span, a, *place, name);
+            Ok((Expr { node }, state))
         }
         source::ExprNode::Minus(span, a) => {
             let (a, state) = one(alloc, tables, generics, a.get(), state)?;
-            (ExprNode::Minus(*span, a), state)
+            let node = ExprNode::Minus(*span, a);
+            Ok((Expr { node }, state))
         }
         source::ExprNode::Negation(span, a) => {
             let (a, state) = one(alloc, tables, generics, a.get(), state)?;
-            (ExprNode::Negation(*span, a), state)
+            let node = ExprNode::Negation(*span, a);
+            Ok((Expr { node }, state))
         }
         source::ExprNode::Deref(span, a) => {
             let (a, state) = one(alloc, tables, generics, a.get(), state)?;
-            (ExprNode::Deref(*span, a), state)
+            let node = ExprNode::Deref(*span, a);
+            Ok((Expr { node }, state))
         }
         source::ExprNode::Borrow(span, mutable, a) => {
             let (a, state) = one(alloc, tables, generics, a.get(), state)?;
-            (ExprNode::Borrow(*span, *mutable, a), state)
+            let node = ExprNode::Borrow(*span, *mutable, a);
+            Ok((Expr { node }, state))
         }
         source::ExprNode::Binary(span, op, a, b) => {
-            let (a, state) = one(alloc, tables, generics, a.get(), state)?;
-            let (b, state) = one(alloc, tables, generics, b.get(), state)?;
-            (ExprNode::Binary(*span, *op, a, b), state)
+            let ((a, b), state) = two(alloc, tables, generics, a.get(), b.get(), state)?;
+            let node = ExprNode::Binary(*span, *op, a, b);
+            Ok((Expr { node }, state))
         }
         source::ExprNode::Compare(span, op, a, b) => {
-            let (a, state) = one(alloc, tables, generics, a.get(), state)?;
-            let (b, state) = one(alloc, tables, generics, b.get(), state)?;
-            (ExprNode::Compare(*span, *op, a, b), state)
+            let ((a, b), state) = two(alloc, tables, generics, a.get(), b.get(), state)?;
+            let node = ExprNode::Compare(*span, *op, a, b);
+            Ok((Expr { node }, state))
         }
         source::ExprNode::Both(span, a, b) => {
-            let (a, state) = one(alloc, tables, generics, a.get(), state)?;
-            let (b, state) = one(alloc, tables, generics, b.get(), state)?;
-            (ExprNode::Both(*span, a, b), state)
+            let ((a, b), state) = two(alloc, tables, generics, a.get(), b.get(), state)?;
+            let node = ExprNode::Both(*span, a, b);
+            Ok((Expr { node }, state))
         }
         source::ExprNode::Either(span, a, b) => {
-            let (a, state) = one(alloc, tables, generics, a.get(), state)?;
-            let (b, state) = one(alloc, tables, generics, b.get(), state)?;
-            (ExprNode::Either(*span, a, b), state)
+            let ((a, b), state) = two(alloc, tables, generics, a.get(), b.get(), state)?;
+            let node = ExprNode::Either(*span, a, b);
+            Ok((Expr { node }, state))
         }
         source::ExprNode::Cast(span, a, ty) => {
             let (a, state) = one(alloc, tables, generics, a.get(), state)?;
-            (ExprNode::Cast(*span, a, *ty), state)
+            let node = ExprNode::Cast(*span, a, *ty);
+            Ok((Expr { node }, state))
         }
         source::ExprNode::Assign(span, a, b) => {
-            let (a, state) = one(alloc, tables, generics, a.get(), state)?;
-            let (b, state) = one(alloc, tables, generics, b.get(), state)?;
-            (ExprNode::Assign(*span, a, b), state)
+            let ((a, b), state) = two(alloc, tables, generics, a.get(), b.get(), state)?;
+            let node = ExprNode::Assign(*span, a, b);
+            Ok((Expr { node }, state))
         }
         source::ExprNode::Update(span, op, a, b) => {
-            let (a, state) = one(alloc, tables, generics, a.get(), state)?;
-            let (b, state) = one(alloc, tables, generics, b.get(), state)?;
-            (ExprNode::Update(*span, *op, a, b), state)
+            let ((a, b), state) = two(alloc, tables, generics, a.get(), b.get(), state)?;
+            let node = ExprNode::Update(*span, *op, a, b);
+            Ok((Expr { node }, state))
         }
         source::ExprNode::Give(span, value) => {
             let (value, state) = resolve_maybe(alloc, tables, generics, value, state)?;
-            (ExprNode::Give(*span, value), state)
+            let node = ExprNode::Give(*span, value);
+            Ok((Expr { node }, state))
         }
         source::ExprNode::Leave(span, value) => {
             let (value, state) = resolve_maybe(alloc, tables, generics, value, state)?;
-            (ExprNode::Leave(*span, value), state)
+            let node = ExprNode::Leave(*span, value);
+            Ok((Expr { node }, state))
         }
-        source::ExprNode::GoOn(span) => (ExprNode::GoOn(*span), state),
-    };
-    Ok((Expr { node }, state))
+        source::ExprNode::GoOn(span) => {
+            let node = ExprNode::GoOn(*span);
+            Ok((Expr { node }, state))
+        }
+    }
+}
+
+/// Two expressions in boxes, from left to right.
+#[cycle(uses)]
+fn two(
+    alloc: Global,
+    tables: &Tables,
+    generics: &Generics,
+    a: &source::Expr,
+    b: &source::Expr,
+    state: State,
+) -> Result<((Boxed<Expr>, Boxed<Expr>), State), Stop>
+    ensures { Gives (spec.read_two tables.now generics.now a.now b.now state) result }
+{
+    let (a, state) = one(alloc, tables, generics, a, state)?;
+    let (b, state) = one(alloc, tables, generics, b, state)?;
+    Ok(((a, b), state))
+}
+
+/// A block in a box.
+#[cycle(uses)]
+fn boxed_block(
+    alloc: Global,
+    tables: &Tables,
+    generics: &Generics,
+    block: &source::Block,
+    state: State,
+) -> Result<(Boxed<Block>, State), Stop>
+    ensures { Gives (spec.read_block tables.now generics.now block.now state) result }
+{
+    let (block, state) = resolve_block(alloc, tables, generics, block, state)?;
+    Ok((Boxed::new(alloc, block)?, state))
 }
 
 /// An expression in a box.
@@ -198,15 +254,16 @@ fn resolve_maybe(
     }
 }
 
-/// The arms of an `if let`: the pattern's, and that of any other value.
+/// An `if let`: a `match` with the pattern's arm, and that of any other value.
 fn two_arms(
     alloc: Global,
     span: Span,
+    scrutinee: Boxed<Expr>,
     pat: Pat,
     yes: Expr,
     no: Expr,
-) -> Result<List<(Pat, Expr)>, NoMem>
-    ensures { IfOk result (λ arms. resolved.arms arms ≡ spec.two_arms span pat yes no) }
+) -> Result<Expr, NoMem>
+    ensures { IfOk result (λ e. e ≡ spec.two_arms span scrutinee pat yes no) }
 {
     let wild = Pat {
         node: PatNode::Wild(span),
@@ -214,7 +271,9 @@ fn two_arms(
     let mut arms = List::new(alloc);
     arms.push((pat, yes))?;
     arms.push((wild, no))?;
-    Ok(arms)
+    Ok(Expr {
+        node: ExprNode::Select(span, scrutinee, arms),
+    })
 }
 
 /// Expressions from left to right.
