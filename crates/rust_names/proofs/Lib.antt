@@ -5,3 +5,4 @@ pub mod PatternLists
 pub mod UseLists
 pub mod ScopeTables
 pub mod Entering
+pub mod Repeating

@@ -18,7 +18,7 @@ or_by : (b : Bool) (o p q : Option ℕ) → o ≡ or_else p q → (if b then Som
 or_by true o p q h = refl
 or_by false o p q h = h
 
-taken : {A : Type 0} (xs : List A) (k : ℕ) (x d : A) → k < length xs → x ≡ get_or xs k d → take (k + 1) xs ≡ take k xs ++ x ∷ []
+pub taken : {A : Type 0} (xs : List A) (k : ℕ) (x d : A) → k < length xs → x ≡ get_or xs k d → take (k + 1) xs ≡ take k xs ++ x ∷ []
 taken xs k x d l h = rw add-one (next xs k x d l h)
   where
     next : {A : Type 0} (xs : List A) (k : ℕ) (x d : A) → k < length xs → x ≡ get_or xs k d → take (suc k) xs ≡ take k xs ++ x ∷ []

@@ -31,6 +31,10 @@ module _ {A : Type 0} where
   put_behind [] x ys = refl
   put_behind (z ∷ xs) x ys = ap (λ zs. z ∷ zs) (put_behind xs x ys)
 
+pub behind_nothing : {B : Type 0} (o : Result (List B) Span) → behind [] o ≡ o
+behind_nothing (Ok ys) = refl
+behind_nothing (Err p) = refl
+
 module _ {A B : Type 0} (step : A → Result B Span) where
   pub each_start : (o : Result (List B) Span) → behind [] o ≡ o
   each_start (Ok ys) = refl

@@ -1,5 +1,5 @@
 -- Going through a list: a step for each item, from left to right, until one fails.
-use Rattle.std.specs.Prelude.{List, [], ◌∷◌, ◌++◌, Result, Ok, Err}
+use Rattle.std.specs.Prelude.{ℕ, ◌+◌, List, [], ◌∷◌, ◌++◌, Result, Ok, Err}
 use Rattle.aen_base.specs.declared.span.Span.{Span}
 use Rattle.rust_names.specs.Lookups.{and_then}
 
@@ -13,6 +13,12 @@ module _ {A B : Type 0} (step : A → Result B Span) where
   abbrev pub each : List A → Result (List B) Span
   each [] = Ok []
   each (x ∷ xs) = and_then (step x) (λ y. and_then (each xs) (λ ys. Ok (y ∷ ys)))
+
+-- with a number for each item
+module _ {A B : Type 0} (step : A → ℕ → Result B Span) where
+  abbrev pub each_from : ℕ → List A → Result (List B) Span
+  each_from k [] = Ok []
+  each_from k (x ∷ xs) = and_then (step x k) (λ y. and_then (each_from (k + 1) xs) (λ ys. Ok (y ∷ ys)))
 
 -- with what is known, which each step changes
 module _ {A B S : Type 0} (step : A → S → Result (B × S) Span) where

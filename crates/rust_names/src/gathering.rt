@@ -140,20 +140,33 @@ fn with_enum(alloc: Global, so_far: Gathered, e: &Enum) -> Result<Gathered, NoMe
     })
 }
 
+/// `use std::mem;` more.
+fn with_mem(so_far: Gathered) -> Gathered
+    ensures { result ≡ spec.with_mem so_far }
+{
+    let Gathered {
+        types,
+        values,
+        mem: _,
+        functions,
+    } = so_far;
+    Gathered {
+        types,
+        values,
+        mem: true,
+        functions,
+    }
+}
+
 /// An item more.
 fn with_item(alloc: Global, so_far: Gathered, item: &Item) -> Result<Gathered, NoMem>
     ensures { IfOk result (λ r. r ≡ spec.with_item so_far item.now) }
 {
     match item {
-        Item::Function(f) => with_function(alloc, so_far, f),
-        Item::Struct(s) => with_struct(alloc, so_far, s),
-        Item::Enum(e) => with_enum(alloc, so_far, e),
-        Item::UseMem => Ok(Gathered {
-            types: so_far.types,
-            values: so_far.values,
-            mem: true,
-            functions: so_far.functions,
-        }),
+        Item::Function(f) => Ok(with_function(alloc, so_far, f)?),
+        Item::Struct(s) => Ok(with_struct(alloc, so_far, s)?),
+        Item::Enum(e) => Ok(with_enum(alloc, so_far, e)?),
+        Item::UseMem => Ok(with_mem(so_far)),
     }
 }
 
@@ -168,7 +181,8 @@ fn gather(alloc: Global, items: &[Item]) -> Result<Gathered, NoMem>
         functions: 0,
     };
     for i in 0..items.len() {
-        so_far = with_item(alloc, so_far, &items[i])?;
+        let next = with_item(alloc, so_far, &items[i])?;
+        so_far = next;
     }
     Ok(so_far)
 }

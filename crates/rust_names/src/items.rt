@@ -40,11 +40,27 @@ fn function_generics(alloc: Global, f: &program::Function) -> Result<Generics, N
     })
 }
 
-/// The name of a field that has none.
+/// A field without a name: it has its place as its name.
+fn placed_field(
+    alloc: Global,
+    tables: &Tables,
+    generics: &Generics,
+    ty: &source_types::Written,
+    place: usize,
+) -> Result<(Name, Written), Stop>
+    ensures { Gives (spec.placed_field tables.now generics.now ty.now place) result }
+{
+    let ty = resolve_type(alloc, tables, generics, ty)?;
+    let name = place_name(alloc, place)?;
+    Ok((name, ty))
+}
+
+/// The name of a field that has none. The only error is want of memory.
 fn place_name(alloc: Global, place: usize) -> Result<Name, NoMem>
     ensures { IfOk result (λ n. n ≡ decimal place) }
 {
-    Ok(Name::new(format!(in alloc; "{place}")?))
+    let text = format!(in alloc; "{place}")?;
+    Ok(Name::new(text))
 }
 
 /// Fields without names.
@@ -58,10 +74,24 @@ fn placed_fields(
 {
     let mut done = List::new(alloc);
     for i in 0..types.len() {
-        let ty = resolve_type(alloc, tables, generics, &types[i])?;
-        done.push((place_name(alloc, i)?, ty))?;
+        let field = placed_field(alloc, tables, generics, &types[i], i)?;
+        done.push(field)?;
     }
     Ok(done)
+}
+
+/// A field with a name.
+fn named_field(
+    alloc: Global,
+    tables: &Tables,
+    generics: &Generics,
+    field: &(Span, Name, source_types::Written),
+) -> Result<(Name, Written), Stop>
+    ensures { Gives (spec.named_field tables.now generics.now field.now) result }
+{
+    let ty = resolve_type(alloc, tables, generics, &field.2)?;
+    let name = field.1.try_clone(alloc)?;
+    Ok((name, ty))
 }
 
 /// Fields with names.
@@ -75,8 +105,8 @@ fn named_fields(
 {
     let mut done = List::new(alloc);
     for i in 0..fields.len() {
-        let ty = resolve_type(alloc, tables, generics, &fields[i].2)?;
-        done.push((fields[i].1.try_clone(alloc)?, ty))?;
+        let field = named_field(alloc, tables, generics, &fields[i])?;
+        done.push(field)?;
     }
     Ok(done)
 }
@@ -114,6 +144,20 @@ fn resolve_struct(alloc: Global, tables: &Tables, s: &Struct) -> Result<Declared
     })
 }
 
+/// A variant of an enum.
+fn resolve_variant(
+    alloc: Global,
+    tables: &Tables,
+    generics: &Generics,
+    variant: &Variant,
+) -> Result<(Name, List<(Name, Written)>), Stop>
+    ensures { Gives (spec.read_variant tables.now generics.now variant.now) result }
+{
+    let fields = placed_fields(alloc, tables, generics, variant.fields.as_slice())?;
+    let name = variant.name.name.try_clone(alloc)?;
+    Ok((name, fields))
+}
+
 /// The variants of an enum.
 fn resolve_variants(
     alloc: Global,
@@ -125,8 +169,8 @@ fn resolve_variants(
 {
     let mut done = List::new(alloc);
     for i in 0..variants.len() {
-        let fields = placed_fields(alloc, tables, generics, variants[i].fields.as_slice())?;
-        done.push((variants[i].name.name.try_clone(alloc)?, fields))?;
+        let variant = resolve_variant(alloc, tables, generics, &variants[i])?;
+        done.push(variant)?;
     }
     Ok(done)
 }
@@ -147,6 +191,18 @@ fn resolve_enum(alloc: Global, tables: &Tables, e: &Enum) -> Result<Declared, St
     })
 }
 
+/// The type of a parameter.
+fn param_type(
+    alloc: Global,
+    tables: &Tables,
+    generics: &Generics,
+    param: &Param,
+) -> Result<Written, Stop>
+    ensures { Gives (spec.param_type tables.now generics.now param.now) result }
+{
+    Ok(resolve_type(alloc, tables, generics, &param.ty)?)
+}
+
 /// The types of parameters.
 fn param_types(
     alloc: Global,
@@ -158,7 +214,7 @@ fn param_types(
 {
     let mut done = List::new(alloc);
     for i in 0..params.len() {
-        let ty = resolve_type(alloc, tables, generics, &params[i].ty)?;
+        let ty = param_type(alloc, tables, generics, &params[i])?;
         done.push(ty)?;
     }
     Ok(done)
@@ -215,21 +271,49 @@ fn resolve_function(alloc: Global, tables: &Tables, f: &program::Function) -> Re
     })
 }
 
+/// A declared type more. The only error is want of memory.
+fn with_type(so_far: Resolved, ty: Declared) -> Result<Resolved, NoMem>
+    ensures { IfOk result (λ r. r ≡ spec.with_type so_far ty) }
+{
+    let Resolved {
+        mut types,
+        functions,
+    } = so_far;
+    types.push(ty)?;
+    Ok(Resolved { types, functions })
+}
+
+/// A function more. The only error is want of memory.
+fn with_function(so_far: Resolved, f: Function) -> Result<Resolved, NoMem>
+    ensures { IfOk result (λ r. r ≡ spec.with_function so_far f) }
+{
+    let Resolved {
+        types,
+        mut functions,
+    } = so_far;
+    functions.push(f)?;
+    Ok(Resolved { types, functions })
+}
+
 /// An item more.
 fn with_item(alloc: Global, tables: &Tables, so_far: Resolved, item: &Item) -> Result<Resolved, Stop>
     ensures { Gives (spec.read_item tables.now so_far item.now) result }
 {
-    let Resolved {
-        mut types,
-        mut functions,
-    } = so_far;
     match item {
-        Item::Function(f) => functions.push(resolve_function(alloc, tables, f)?)?,
-        Item::Struct(s) => types.push(resolve_struct(alloc, tables, s)?)?,
-        Item::Enum(e) => types.push(resolve_enum(alloc, tables, e)?)?,
-        Item::UseMem => {}
+        Item::Function(f) => {
+            let f = resolve_function(alloc, tables, f)?;
+            Ok(with_function(so_far, f)?)
+        }
+        Item::Struct(s) => {
+            let ty = resolve_struct(alloc, tables, s)?;
+            Ok(with_type(so_far, ty)?)
+        }
+        Item::Enum(e) => {
+            let ty = resolve_enum(alloc, tables, e)?;
+            Ok(with_type(so_far, ty)?)
+        }
+        Item::UseMem => Ok(so_far),
     }
-    Ok(Resolved { types, functions })
 }
 
 /// The items in source order.
@@ -241,7 +325,8 @@ pub(crate) fn resolve_items(alloc: Global, tables: &Tables, items: &[Item]) -> R
         functions: List::new(alloc),
     };
     for i in 0..items.len() {
-        so_far = with_item(alloc, tables, so_far, &items[i])?;
+        let next = with_item(alloc, tables, so_far, &items[i])?;
+        so_far = next;
     }
     Ok(so_far)
 }

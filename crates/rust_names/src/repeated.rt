@@ -120,10 +120,12 @@ pub(crate) fn repeated_beside<T: Declares>(
     let mut before = IndexMap::new(alloc);
     let mut found = None;
     for i in 0..items.len() {
-        let item = &items[i];
-        let places = with_second(item.span(), earlier(seen, &before, item.name()));
+        let name = items[i].name();
+        let place = items[i].span();
+        let early = earlier(seen, &before, name);
+        let places = with_second(place, early);
         found = first(found, places);
-        note(alloc, &mut before, item.name(), item.span())?;
+        note(alloc, &mut before, name, place)?;
     }
     Ok(found)
 }

@@ -83,10 +83,14 @@ impl Seen {
             mut both,
             mut parameters,
         } = self;
-        note_for(alloc, &mut types, must_differ(Kind::Type, kind), name)?;
-        note_for(alloc, &mut values, must_differ(Kind::Value, kind), name)?;
-        note_for(alloc, &mut both, must_differ(Kind::Both, kind), name)?;
-        note_for(alloc, &mut parameters, must_differ(Kind::Parameter, kind), name)?;
+        let of_types = must_differ(Kind::Type, kind);
+        let of_values = must_differ(Kind::Value, kind);
+        let of_both = must_differ(Kind::Both, kind);
+        let of_parameters = must_differ(Kind::Parameter, kind);
+        note_for(alloc, &mut types, of_types, name)?;
+        note_for(alloc, &mut values, of_values, name)?;
+        note_for(alloc, &mut both, of_both, name)?;
+        note_for(alloc, &mut parameters, of_parameters, name)?;
         entries.push(Entry {
             name: name.name.try_clone(alloc)?,
             span: name.span,

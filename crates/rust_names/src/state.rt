@@ -119,7 +119,9 @@ fn entered(
         let Some(variable) = at(variables, place) else {
             return Ok(scope);
         };
-        scope = scope.with(alloc, &variable.name, number(place)?)?;
+        let variable_number = number(place)?;
+        let more = scope.with(alloc, &variable.name, variable_number)?;
+        scope = more;
         place += 1;
     }
     Ok(scope)

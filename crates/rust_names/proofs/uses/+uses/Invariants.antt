@@ -12,6 +12,12 @@ decreases-resolve_expr l = 3 * s.nodes_expr l.e.now
 abbrev pub decreases-one : goal.decreases-one
 decreases-one l = 3 * s.nodes_expr l.e.now + 1
 
+abbrev pub decreases-two : goal.decreases-two
+decreases-two l = 3 * (s.nodes_expr l.a.now + s.nodes_expr l.b.now) + 2
+
+abbrev pub decreases-boxed_block : goal.decreases-boxed_block
+decreases-boxed_block l = 3 * s.nodes_block l.block.now + 1
+
 abbrev pub decreases-resolve_maybe : goal.decreases-resolve_maybe
 decreases-resolve_maybe l = 3 * s.nodes_maybeexpr (s.maybeexpr l.e.now)
 
