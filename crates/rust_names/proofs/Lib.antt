@@ -6,3 +6,4 @@ pub mod UseLists
 pub mod ScopeTables
 pub mod Entering
 pub mod Repeating
+pub mod Counting

@@ -7,9 +7,11 @@ use Rattle.rust_ast.specs.declared.ident.Ident.{Ident}
 use Rattle.rust_names.specs.declared.entry.Entry.{Entry}
 use Rattle.rust_names.specs.declared.entry.Kind.{Kind}
 use Rattle.rust_names.specs.declared.entry.Kind.TheVariants as kind
+use Rattle.rust_ast.specs.declared.program.Item.{Item}
+use Rattle.rust_names.specs.declared.tables.ValueNames.{ValueNames}
 use Rattle.rust_names.specs.Finding.{or_else}
 use Rattle.rust_names.specs.FirstPlaces.{AreFirst}
-use Rattle.rust_names.specs.Twice.{Pair, with_second, must_differ, first_like, first_named, repeated, repeated_parameter, twice_own, entry}
+use Rattle.rust_names.specs.Twice.{Pair, with_second, must_differ, first_like, first_named, repeated, repeated_parameter, twice_own, entry, twice_in_item, twice_in_items, with_entries}
 use Rattle.rust_names.proofs.Placing.{taken}
 use Rattle.rust_names.proofs.Walking.{drop_at, drop_all}
 
@@ -87,8 +89,8 @@ module _ {A : Type 0} (f : A → Ident) where
       let this : Pair = with_second (f x).span (or_else (first_like kind.Parameter (f x).name seen) (first_named (f x).name (map f (take i xs)))) in
       let rest : Pair = repeated_parameter seen (map f (take (i + 1) xs)) (map f (drop (i + 1) xs)) in
       let same : places ≡ this =
-          p ∙ (λ t. with_second (q t) (r t)) ∙ (λ t. with_second (f x).span (or_else (first_like kind.Parameter (e t) seen) (table (e t))))
-          ∙ ap (λ o. with_second (f x).span (or_else (first_like kind.Parameter (f x).name seen) o)) (before (f x).name) in
+      p ∙ (λ t. with_second (q t) (r t)) ∙ (λ t. with_second (f x).span (or_else (first_like kind.Parameter (e t) seen) (table (e t))))
+      ∙ ap (λ o. with_second (f x).span (or_else (first_like kind.Parameter (f x).name seen) o)) (before (f x).name) in
       ap (λ o. or_else o rest) (n ∙ ap (or_else found) same) ∙ sym (or_both found this rest)
       ∙ ap (λ b. or_else found (or_else this (repeated_parameter seen b (map f (drop (i + 1) xs))))) (split xs i x l h)
       ∙ ap (λ ys. or_else found (repeated_parameter seen (map f (take i xs)) (map f ys))) (sym (drop_at xs i x l h)) ∙ inv
@@ -107,3 +109,17 @@ module _ {A : Type 0} (one : A → Pair) (all : List A → Pair) (more : (x : A)
 
   pub found_all : (xs : List A) (i : ℕ) (found whole : Pair) → length xs ≤ i → or_else found (all (drop i xs)) ≡ whole → found ≡ whole
   found_all xs i found whole l inv = sym (or_none found) ∙ ap (or_else found) (sym (ap all (drop_all xs i l) ∙ ends)) ∙ inv
+
+-- ---- a walk along items
+
+pub items_turn : (vs : List ValueNames) (items : List Item) (i : ℕ) (x : Item) (seen next : List Entry) (found places new whole : Pair) → i < length items → x ≡ get_or items i x →
+    places ≡ twice_in_item vs seen x → next ≡ with_entries seen x → new ≡ or_else found places → or_else found (twice_in_items vs seen (drop i items)) ≡ whole →
+    or_else new (twice_in_items vs next (drop (i + 1) items)) ≡ whole
+items_turn vs items i x seen next found places new whole l h p q n inv =
+    ap (λ o. or_else o (twice_in_items vs next (drop (i + 1) items))) (n ∙ ap (or_else found) p)
+    ∙ ap (λ s. or_else (or_else found (twice_in_item vs seen x)) (twice_in_items vs s (drop (i + 1) items))) q
+    ∙ sym (or_both found (twice_in_item vs seen x) (twice_in_items vs (with_entries seen x) (drop (i + 1) items)))
+    ∙ ap (λ ys. or_else found (twice_in_items vs seen ys)) (sym (drop_at items i x l h)) ∙ inv
+
+pub items_end : (vs : List ValueNames) (items : List Item) (i : ℕ) (seen : List Entry) (found whole : Pair) → length items ≤ i → or_else found (twice_in_items vs seen (drop i items)) ≡ whole → found ≡ whole
+items_end vs items i seen found whole l inv = sym (or_none found) ∙ ap (λ ys. or_else found (twice_in_items vs seen ys)) (sym (drop_all items i l)) ∙ inv

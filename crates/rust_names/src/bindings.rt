@@ -5,7 +5,7 @@ ghost use Rattle.rust_ast.specs.SourcePatterns as source;
 ghost use Rattle.rust_names.specs.Twice as spec;
 
 use crate::lookups::empty_struct;
-use crate::repeated::repeated;
+use crate::repeated::repeated_idents;
 use crate::tables::Tables;
 use aen_base::{List, NoMem, Span};
 use rust_ast::Ident;
@@ -49,12 +49,7 @@ fn bind_alone(
 
 /// Puts what a pattern binds behind these names, in source order. The only error is want of memory.
 #[cycle(bindings)]
-fn bindings(
-    alloc: Global,
-    tables: &Tables,
-    pat: &Pat,
-    names: &mut List<Ident>,
-) -> Result<(), NoMem>
+fn bindings(alloc: Global, tables: &Tables, pat: &Pat, names: &mut List<Ident>) -> Result<(), NoMem>
     ensures { OnOk result (names.new ≡ names.old ++ spec.bindings tables.now.values pat.now) }
 {
     match &pat.node {
@@ -123,7 +118,7 @@ fn bindings_field(
 
 /// The first binding that an earlier one of the same pattern has the name of. The only error is want
 /// of memory.
-#[tactic(auto, unfolding(crate::specs::Twice::twice_in_pattern), using(crate::proofs::Repeating::map_same))]
+#[tactic(auto, unfolding(crate::specs::Twice::twice_in_pattern))]
 pub(crate) fn twice_in_pattern(
     alloc: Global,
     tables: &Tables,
@@ -133,5 +128,5 @@ pub(crate) fn twice_in_pattern(
 {
     let mut names = List::new(alloc);
     bindings(alloc, tables, pat, &mut names)?;
-    Ok(repeated(alloc, names.as_slice())?)
+    Ok(repeated_idents(alloc, names.as_slice())?)
 }

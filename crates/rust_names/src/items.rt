@@ -13,11 +13,10 @@ use crate::tables::{Generics, Tables};
 use crate::type_uses::{resolve_maybe_type, resolve_type};
 use crate::uses::resolve_block;
 use aen_base::{List, Name, NoMem, Span};
-use rust_ast::Ident;
 use rust_ast::program::{self, Enum, Fields, Item, Param, Struct, Variant};
 use rust_ast::resolution::{Declared, Function, Resolved, Variable};
-use rust_ast::source_types;
 use rust_ast::written::Written;
+use rust_ast::{Ident, source_types};
 use std::alloc::Global;
 
 /// The type parameters of a declared type, which has no lifetimes.
@@ -296,7 +295,12 @@ fn with_function(so_far: Resolved, f: Function) -> Result<Resolved, NoMem>
 }
 
 /// An item more.
-fn with_item(alloc: Global, tables: &Tables, so_far: Resolved, item: &Item) -> Result<Resolved, Stop>
+fn with_item(
+    alloc: Global,
+    tables: &Tables,
+    so_far: Resolved,
+    item: &Item,
+) -> Result<Resolved, Stop>
     ensures { Gives (spec.read_item tables.now so_far item.now) result }
 {
     match item {
@@ -317,7 +321,11 @@ fn with_item(alloc: Global, tables: &Tables, so_far: Resolved, item: &Item) -> R
 }
 
 /// The items in source order.
-pub(crate) fn resolve_items(alloc: Global, tables: &Tables, items: &[Item]) -> Result<Resolved, Stop>
+pub(crate) fn resolve_items(
+    alloc: Global,
+    tables: &Tables,
+    items: &[Item],
+) -> Result<Resolved, Stop>
     ensures { Gives (spec.read_items tables.now items.now spec.no_items) result }
 {
     let mut so_far = Resolved {

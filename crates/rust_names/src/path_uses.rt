@@ -7,7 +7,10 @@ ghost use Rattle.rust_names.specs.Gives.{Gives};
 ghost use Rattle.rust_names.specs.PathUses as spec;
 
 use crate::fault::Stop;
-use crate::lookups::{constructor_of, known, meaning_of, struct_of, swap_place, type_meaning, uncalled_place, variant_of};
+use crate::lookups::{
+    constructor_of, known, meaning_of, struct_of, swap_place, type_meaning, uncalled_place,
+    variant_of,
+};
 use crate::scope::Scope;
 use crate::tables::{Generics, Meaning, Tables};
 use crate::type_uses::turbos;

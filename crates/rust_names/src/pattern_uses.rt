@@ -14,9 +14,8 @@ use crate::path_uses::{braced_path, no_turbos, placed_path};
 use crate::state::State;
 use crate::tables::{Generics, Tables};
 use aen_base::{List, Name, NoMem, Span};
-use rust_ast::Ident;
 use rust_ast::patterns::{Pat, PatNode};
-use rust_ast::source_patterns as source;
+use rust_ast::{Ident, source_patterns as source};
 use std::alloc::Global;
 
 /// A binding, with the span of the whole, and whether `mut` is written.
@@ -78,25 +77,52 @@ pub(crate) fn resolve_pat(
         }
         source::PatNode::Wild(span) => (PatNode::Wild(*span), state),
         source::PatNode::Number(span, negative, magnitude, suffix) => {
-            (PatNode::Number(*span, *negative, *magnitude, *suffix), state)
+            (
+                PatNode::Number(*span, *negative, *magnitude, *suffix),
+                state,
+            )
         }
         source::PatNode::Truth(span, value) => (PatNode::Truth(*span, *value), state),
         source::PatNode::Tuple(span, parts) => {
-            let (parts, state) =
-                resolve_pats(alloc, tables, generics, late, parts.as_slice(), state)?;
+            let (parts, state) = resolve_pats(
+                alloc,
+                tables,
+                generics,
+                late,
+                parts.as_slice(),
+                state,
+            )?;
             (PatNode::Tuple(*span, parts), state)
         }
         source::PatNode::Construct(span, path, parts) => {
             let built = placed_path(alloc, tables, generics, path)?;
-            let (parts, state) =
-                resolve_pats(alloc, tables, generics, late, parts.as_slice(), state)?;
-            (PatNode::Construct(*span, built.id, built.variant, built.turbos, parts), state)
+            let (parts, state) = resolve_pats(
+                alloc,
+                tables,
+                generics,
+                late,
+                parts.as_slice(),
+                state,
+            )?;
+            (
+                PatNode::Construct(*span, built.id, built.variant, built.turbos, parts),
+                state,
+            )
         }
         source::PatNode::Literal(span, path, fields) => {
             let built = braced_path(alloc, tables, generics, path)?;
-            let (fields, state) =
-                resolve_fields(alloc, tables, generics, late, fields.as_slice(), state)?;
-            (PatNode::Literal(*span, built.id, built.variant, built.turbos, fields), state)
+            let (fields, state) = resolve_fields(
+                alloc,
+                tables,
+                generics,
+                late,
+                fields.as_slice(),
+                state,
+            )?;
+            (
+                PatNode::Literal(*span, built.id, built.variant, built.turbos, fields),
+                state,
+            )
         }
     };
     Ok((Pat { node }, state))

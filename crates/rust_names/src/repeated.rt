@@ -124,7 +124,8 @@ pub(crate) fn repeated_beside<T: Declares>(
         let place = items[i].span();
         let early = earlier(seen, &before, name);
         let places = with_second(place, early);
-        found = first(found, places);
+        let more = first(found, places);
+        found = more;
         note(alloc, &mut before, name, place)?;
     }
     Ok(found)
@@ -140,4 +141,25 @@ pub(crate) fn repeated<T: Declares>(
 {
     let nothing = Seen::new(alloc);
     Ok(repeated_beside(alloc, &nothing, items)?)
+}
+
+/// The first of these names that stands before it among them. The only error is want of memory.
+#[tactic(auto, using(crate::proofs::Repeating::map_same))]
+pub(crate) fn repeated_idents(alloc: Global, items: &[Ident]) -> Result<Option<(Span, Span)>, NoMem>
+    ensures { IfOk result (λ p. p ≡ spec.repeated [] items.now) }
+{
+    Ok(repeated(alloc, items)?)
+}
+
+/// The first type parameter that stands before it among these, or that is one of the program's
+/// types. The only error is want of memory.
+#[tactic(auto, using(crate::proofs::Repeating::map_same))]
+pub(crate) fn repeated_parameters(
+    alloc: Global,
+    seen: &Seen,
+    params: &[Ident],
+) -> Result<Option<(Span, Span)>, NoMem>
+    ensures { IfOk result (λ p. p ≡ spec.repeated_parameter seen.now [] params.now) }
+{
+    Ok(repeated_beside(alloc, seen, params)?)
 }

@@ -1,6 +1,6 @@
 //! A program with names resolved, or the first fault of its names.
 
-ghost use Rattle.std.specs.Prelude.{◌≡◌, [], ◌∷◌, if◌then◌else◌, Ok};
+ghost use Rattle.std.specs.Prelude.{◌≡◌, [], ◌∷◌, ◌≤◌, ◌||◌, length, nat_lt, Ok};
 ghost use Rattle.rust_names.specs.Answers.{Answers};
 ghost use Rattle.rust_names.specs.Resolution as spec;
 
@@ -26,22 +26,29 @@ fn count_functions(items: &[Item]) -> usize
 {
     let mut count = 0;
     for i in 0..items.len() {
-        if is_function(&items[i]) {
-            count += 1;
-        }
+        let more = functions_of(&items[i]);
+        count += more;
     }
     count
 }
 
-/// Whether an item is a function.
-fn is_function(item: &Item) -> bool
-    ensures { spec.count_functions (item.now ∷ []) ≡ (if result then 1 else 0) }
+/// Whether there are more functions than a program may have.
+fn has_too_many(items: &[Item]) -> bool
+    ensures { result ≡ nat_lt 4096 (spec.count_functions items.now) }
+{
+    FUNCTIONS < count_functions(items)
+}
+
+/// How many functions an item is: one or none.
+fn functions_of(item: &Item) -> usize
+    ensures count { result ≡ spec.count_functions (item.now ∷ []) }
+    ensures most { result ≤ 1 }
 {
     match item {
-        Item::Function(_) => true,
-        Item::Struct(_) => false,
-        Item::Enum(_) => false,
-        Item::UseMem => false,
+        Item::Function(_) => 1,
+        Item::Struct(_) => 0,
+        Item::Enum(_) => 0,
+        Item::UseMem => 0,
     }
 }
 
@@ -51,14 +58,30 @@ fn has_many(functions: &[Function]) -> bool
 {
     let mut many = false;
     for i in 0..functions.len() {
-        many = many || VARIABLES < functions[i].variables.len();
+        let over = is_over(&functions[i]);
+        let more = either(many, over);
+        many = more;
     }
     many
 }
 
+/// Whether a function has more variables than it may have.
+fn is_over(function: &Function) -> bool
+    ensures { result ≡ nat_lt 1000 (length function.now.variables) }
+{
+    VARIABLES < function.variables.len()
+}
+
+/// Whether one of these holds.
+fn either(a: bool, b: bool) -> bool
+    ensures { result ≡ (a || b) }
+{
+    a || b
+}
+
 /// A program with names resolved, unless a function has too many variables.
 fn within_limit(resolved: Resolved) -> Result<Resolved, NameFault>
-    ensures { result ≡ spec.variables_within (Ok resolved) }
+    ensures { Answers (spec.variables_within (Ok resolved)) result }
 {
     if has_many(resolved.functions.as_slice()) {
         Err(NameFault::Limit(Which::Variables, 1_001))
@@ -80,7 +103,7 @@ pub fn resolve(alloc: Global, program: &Program) -> Result<Resolved, NameFault>
     ensures { Answers (spec.resolution program.now) result }
 {
     let items = program.items.as_slice();
-    if FUNCTIONS < count_functions(items) {
+    if has_too_many(items) {
         return Err(NameFault::Limit(Which::Functions, 4_097));
     }
     let tables = tables_of(alloc, items)?;

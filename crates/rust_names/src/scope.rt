@@ -74,13 +74,15 @@ impl Scope {
         ensures { IfOk result (λ s. s ≡ self ++ (name.now, variable) ∷ []) }
     {
         let hides = self.find(name);
+        let key = name.try_clone(alloc)?;
+        let own = name.try_clone(alloc)?;
         let Scope {
             mut names,
             mut table,
         } = self;
-        table.insert(name.try_clone(alloc)?, Some(variable))?;
+        table.insert(key, Some(variable))?;
         names.push(InScope {
-            name: name.try_clone(alloc)?,
+            name: own,
             variable,
             hides,
         })?;
@@ -95,10 +97,18 @@ impl Scope {
             mut names,
             mut table,
         } = self;
-        if let Some(last) = names.pop() {
-            table.insert(last.name, last.hides)?;
+        match names.pop() {
+            None => Ok(Scope { names, table }),
+            Some(last) => {
+                let InScope {
+                    name,
+                    variable: _,
+                    hides,
+                } = last;
+                table.insert(name, hides)?;
+                Ok(Scope { names, table })
+            }
         }
-        Ok(Scope { names, table })
     }
 
     /// The first of the names, this many.
@@ -107,7 +117,8 @@ impl Scope {
     {
         let mut scope = self;
         while scope.len() > count {
-            scope = scope.without_last()?;
+            let fewer = scope.without_last()?;
+            scope = fewer;
         }
         Ok(scope)
     }

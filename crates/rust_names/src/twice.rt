@@ -6,13 +6,13 @@ ghost use Rattle.rust_names.specs.Finding as finding;
 ghost use Rattle.rust_names.specs.Twice as spec;
 
 use crate::entry::Kind;
-use crate::repeated::{first, repeated, repeated_beside, with_second};
+use crate::repeated::{first, repeated, repeated_idents, repeated_parameters, with_second};
 use crate::seen::Seen;
 use crate::tables::Tables;
 use crate::twice_bodies::twice_in_block;
 use aen_base::{NoMem, Span};
 use rust_ast::Ident;
-use rust_ast::program::{Fields, Item};
+use rust_ast::program::{Fields, Function, Item};
 use std::alloc::Global;
 
 /// What a struct's name may not have in common with another.
@@ -41,18 +41,6 @@ fn repeated_field(alloc: Global, fields: &Fields) -> Result<Option<(Span, Span)>
     }
 }
 
-/// The place that an item's own name must differ from and doesn't, with the item's.
-fn own_place(seen: &Seen, item: &Item) -> Option<(Span, Span)>
-    ensures { result ≡ spec.twice_own seen.now (spec.own_entry item.now) }
-{
-    match item {
-        Item::Function(f) => name_place(seen, Kind::Value, &f.name),
-        Item::Struct(s) => name_place(seen, struct_kind(&s.fields), &s.name),
-        Item::Enum(e) => name_place(seen, Kind::Type, &e.name),
-        Item::UseMem => None,
-    }
-}
-
 /// The place that a name of this kind must differ from and doesn't, with its own.
 #[tactic(auto, using(crate::proofs::Repeating::own_alone))]
 fn name_place(seen: &Seen, kind: Kind, name: &Ident) -> Option<(Span, Span)>
@@ -61,75 +49,52 @@ fn name_place(seen: &Seen, kind: Kind, name: &Ident) -> Option<(Span, Span)>
     with_second(name.span, seen.find(kind, &name.name))
 }
 
-/// The names so far with an item's own.
-fn with_own(alloc: Global, seen: Seen, item: &Item) -> Result<Seen, NoMem>
-    ensures { IfOk result (λ s. s ≡ seen ++ spec.own_entry item.now) }
-{
-    match item {
-        Item::Function(f) => Ok(seen.with(alloc, Kind::Value, &f.name)?),
-        Item::Struct(s) => Ok(seen.with(alloc, struct_kind(&s.fields), &s.name)?),
-        Item::Enum(e) => Ok(seen.with(alloc, Kind::Type, &e.name)?),
-        Item::UseMem => Ok(seen),
-    }
-}
-
-/// The type parameters of an item.
-fn item_parameters(item: &Item) -> &[Ident]
-    ensures { result.now ≡ spec.item_parameters item.now }
-{
-    match item {
-        Item::Function(f) => f.type_params.as_slice(),
-        Item::Struct(s) => s.params.as_slice(),
-        Item::Enum(e) => e.params.as_slice(),
-        Item::UseMem => &[],
-    }
-}
-
-/// The lifetimes of an item.
-fn item_lifetimes(item: &Item) -> &[Ident]
-    ensures { result.now ≡ spec.item_lifetimes item.now }
-{
-    match item {
-        Item::Function(f) => f.lifetimes.as_slice(),
-        Item::Struct(_) => &[],
-        Item::Enum(_) => &[],
-        Item::UseMem => &[],
-    }
-}
-
 /// The names so far with type parameters.
 fn with_parameters(alloc: Global, seen: Seen, params: &[Ident]) -> Result<Seen, NoMem>
     ensures { IfOk result (λ s. s ≡ seen ++ spec.entries kind.Parameter params.now) }
 {
     let mut seen = seen;
     for i in 0..params.len() {
-        seen = seen.with(alloc, Kind::Parameter, &params[i])?;
+        let next = seen.with(alloc, Kind::Parameter, &params[i])?;
+        seen = next;
     }
     Ok(seen)
 }
 
-/// The first among an item's parameters, fields or variants, and in its body.
-fn twice_inside(
+/// What an item's own name and its type parameters repeat, and the names so far with these.
+fn with_item_names(
+    alloc: Global,
+    seen: Seen,
+    kind: Kind,
+    name: &Ident,
+    params: &[Ident],
+) -> Result<(Option<(Span, Span)>, Option<(Span, Span)>, Seen), NoMem>
+    ensures own { IfOk result (λ r. r.0 ≡ spec.twice_own seen (spec.entry kind name.now ∷ [])) }
+    ensures parameters { IfOk result (λ r. r.1 ≡ spec.repeated_parameter (seen ++ spec.entry kind name.now ∷ []) [] params.now) }
+    ensures names { IfOk result (λ r. r.2 ≡ (seen ++ spec.entry kind name.now ∷ []) ++ spec.entries kind.Parameter params.now) }
+{
+    let own = name_place(&seen, kind, name);
+    let named = seen.with(alloc, kind, name)?;
+    let repeated = repeated_parameters(alloc, &named, params)?;
+    let all = with_parameters(alloc, named, params)?;
+    Ok((own, repeated, all))
+}
+
+/// The first among a function's parameters, and in its body.
+fn twice_in_function(
     alloc: Global,
     tables: &Tables,
-    item: &Item,
+    f: &Function,
 ) -> Result<Option<(Span, Span)>, NoMem>
-    ensures { IfOk result (λ p. p ≡ spec.twice_inside tables.now.values item.now) }
+    ensures { IfOk result (λ p. p ≡ finding.or_else (spec.repeated [] (spec.param_idents f.now.params)) (spec.twice_in_block tables.now.values f.now.body)) }
 {
-    match item {
-        Item::Function(f) => {
-            let params = repeated(alloc, f.params.as_slice())?;
-            let body = twice_in_block(alloc, tables, &f.body)?;
-            Ok(first(params, body))
-        }
-        Item::Struct(s) => Ok(repeated_field(alloc, &s.fields)?),
-        Item::Enum(e) => Ok(repeated(alloc, e.variants.as_slice())?),
-        Item::UseMem => Ok(None),
-    }
+    let params = repeated(alloc, f.params.as_slice())?;
+    let body = twice_in_block(alloc, tables, &f.body)?;
+    Ok(first(params, body))
 }
 
 /// The first in an item, and the names so far with the item's.
-#[tactic(auto, unfolding(crate::specs::Twice::twice_in_item), using(crate::proofs::Repeating::map_same))]
+#[tactic(auto, unfolding(crate::specs::Twice::twice_in_item))]
 fn twice_in_item(
     alloc: Global,
     tables: &Tables,
@@ -139,13 +104,29 @@ fn twice_in_item(
     ensures places { IfOk result (λ r. r.0 ≡ spec.twice_in_item tables.now.values seen item.now) }
     ensures names { IfOk result (λ r. r.1 ≡ spec.with_entries seen item.now) }
 {
-    let own = own_place(&seen, item);
-    let seen = with_own(alloc, seen, item)?;
-    let lifetimes = repeated(alloc, item_lifetimes(item))?;
-    let params = repeated_beside(alloc, &seen, item_parameters(item))?;
-    let inside = twice_inside(alloc, tables, item)?;
-    let seen = with_parameters(alloc, seen, item_parameters(item))?;
-    Ok((first(own, first(lifetimes, first(params, inside))), seen))
+    match item {
+        Item::Function(f) => {
+            let params = f.type_params.as_slice();
+            let (own, params, seen) = with_item_names(alloc, seen, Kind::Value, &f.name, params)?;
+            let lifetimes = repeated_idents(alloc, f.lifetimes.as_slice())?;
+            let inside = twice_in_function(alloc, tables, f)?;
+            Ok((first(own, first(lifetimes, first(params, inside))), seen))
+        }
+        Item::Struct(s) => {
+            let kind = struct_kind(&s.fields);
+            let params = s.params.as_slice();
+            let (own, params, seen) = with_item_names(alloc, seen, kind, &s.name, params)?;
+            let inside = repeated_field(alloc, &s.fields)?;
+            Ok((first(own, first(params, inside)), seen))
+        }
+        Item::Enum(e) => {
+            let params = e.params.as_slice();
+            let (own, params, seen) = with_item_names(alloc, seen, Kind::Type, &e.name, params)?;
+            let inside = repeated(alloc, e.variants.as_slice())?;
+            Ok((first(own, first(params, inside)), seen))
+        }
+        Item::UseMem => Ok((None, seen)),
+    }
 }
 
 /// The first place in source order that declares what an earlier one declares, behind the first such
@@ -161,7 +142,8 @@ pub(crate) fn twice_in_items(
     let mut found = None;
     for i in 0..items.len() {
         let (places, next) = twice_in_item(alloc, tables, seen, &items[i])?;
-        found = first(found, places);
+        let more = first(found, places);
+        found = more;
         seen = next;
     }
     Ok(found)

@@ -108,7 +108,8 @@ fn twice_in_all(
     let mut found = None;
     for i in 0..items.len() {
         let next = twice_in(alloc, tables, &items[i])?;
-        found = first(found, next);
+        let more = first(found, next);
+        found = more;
     }
     Ok(found)
 }
@@ -125,7 +126,8 @@ fn twice_in_inits(
     let mut found = None;
     for i in 0..items.len() {
         let next = twice_in(alloc, tables, &items[i].2)?;
-        found = first(found, next);
+        let more = first(found, next);
+        found = more;
     }
     Ok(found)
 }
@@ -156,7 +158,8 @@ fn twice_in_arms(
     let mut found = None;
     for i in 0..items.len() {
         let next = twice_in_arm(alloc, tables, &items[i])?;
-        found = first(found, next);
+        let more = first(found, next);
+        found = more;
     }
     Ok(found)
 }
@@ -191,18 +194,15 @@ fn twice_in_stmts(
     let mut found = None;
     for i in 0..items.len() {
         let next = twice_in_stmt(alloc, tables, &items[i])?;
-        found = first(found, next);
+        let more = first(found, next);
+        found = more;
     }
     Ok(found)
 }
 
 /// The first in a statement.
 #[cycle(bodies)]
-fn twice_in_stmt(
-    alloc: Global,
-    tables: &Tables,
-    stmt: &Stmt,
-) -> Result<Option<(Span, Span)>, NoMem>
+fn twice_in_stmt(alloc: Global, tables: &Tables, stmt: &Stmt) -> Result<Option<(Span, Span)>, NoMem>
     ensures { IfOk result (λ p. p ≡ spec.twice_in_stmt tables.now.values stmt.now) }
 {
     match &stmt.node {

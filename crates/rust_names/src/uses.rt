@@ -18,8 +18,7 @@ use crate::type_uses::{beside, resolve_maybe_type, turbos};
 use aen_base::{Boxed, List, Name, NoMem, Span};
 use rust_ast::patterns::{Pat, PatNode};
 use rust_ast::resolved::{Block, BlockNode, Expr, ExprNode, Stmt, StmtNode};
-use rust_ast::source;
-use rust_ast::source_patterns;
+use rust_ast::{source, source_patterns};
 use std::alloc::Global;
 
 /// An expression with names resolved, and what is known after it.
@@ -96,8 +95,13 @@ pub(crate) fn resolve_expr(
         source::ExprNode::Call(span, path, turbo, arguments) => {
             let called = called_path(alloc, tables, generics, path)?;
             let turbo = turbos(alloc, tables, generics, turbo)?;
-            let (arguments, state) =
-                resolve_all(alloc, tables, generics, arguments.as_slice(), state)?;
+            let (arguments, state) = resolve_all(
+                alloc,
+                tables,
+                generics,
+                arguments.as_slice(),
+                state,
+            )?;
             let turbos = beside(called.turbos, turbo);
             let node = ExprNode::Call(*span, called.callee, turbos, arguments);
             Ok((Expr { node }, state))
@@ -388,8 +392,13 @@ pub(crate) fn resolve_block(
     let count = state.scope.len();
     match &block.node {
         source::BlockNode::Block(span, statements, last) => {
-            let (statements, state) =
-                resolve_stmts(alloc, tables, generics, statements.as_slice(), state)?;
+            let (statements, state) = resolve_stmts(
+                alloc,
+                tables,
+                generics,
+                statements.as_slice(),
+                state,
+            )?;
             let (last, state) = resolve_maybe(alloc, tables, generics, last, state)?;
             let block = Block {
                 node: BlockNode::Block(*span, statements, last),

@@ -13,8 +13,8 @@ twice_in_all-twice_in-requires t c =
 
 pub twice_in_all-loop-i-preserved : goal.twice_in_all-loop-i-preserved
 twice_in_all-loop-i-preserved t c =
-    found_turn (twice_in c.args.tables.now.values) (λ xs. twice_in_all c.args.tables.now.values (s.exprs xs)) (λ x xs. refl) refl c.args.items.now c.loop-i.i c.index-items-i.result c.loop-i.found c.in_ok-next.next c.first.result
-    (twice_in_all c.args.tables.now.values (s.exprs c.args.items.now)) (omega arith) c.index-items-i.is c.in_ok-next.ensures c.first.ensures c.loop-i.invariant
+    found_turn (twice_in c.args.tables.now.values) (λ xs. twice_in_all c.args.tables.now.values (s.exprs xs)) (λ x xs. refl) refl c.args.items.now c.loop-i.i c.index-items-i.result c.loop-i.found c.in_ok-next.next c.first-more.result
+    (twice_in_all c.args.tables.now.values (s.exprs c.args.items.now)) (omega arith) c.index-items-i.is c.in_ok-next.ensures c.first-more.ensures c.loop-i.invariant
 
 pub twice_in_all-returns : goal.twice_in_all-returns
 twice_in_all-returns t c =
@@ -27,8 +27,8 @@ twice_in_inits-twice_in-requires t c =
 
 pub twice_in_inits-loop-i-preserved : goal.twice_in_inits-loop-i-preserved
 twice_in_inits-loop-i-preserved t c =
-    found_turn (λ x. twice_in c.args.tables.now.values x.2) (λ xs. twice_in_inits c.args.tables.now.values (s.inits xs)) (λ x xs. refl) refl c.args.items.now c.loop-i.i c.index-items-i.result c.loop-i.found c.in_ok-next.next c.first.result
-    (twice_in_inits c.args.tables.now.values (s.inits c.args.items.now)) (omega arith) c.index-items-i.is c.in_ok-next.ensures c.first.ensures c.loop-i.invariant
+    found_turn (λ x. twice_in c.args.tables.now.values x.2) (λ xs. twice_in_inits c.args.tables.now.values (s.inits xs)) (λ x xs. refl) refl c.args.items.now c.loop-i.i c.index-items-i.result c.loop-i.found c.in_ok-next.next c.first-more.result
+    (twice_in_inits c.args.tables.now.values (s.inits c.args.items.now)) (omega arith) c.index-items-i.is c.in_ok-next.ensures c.first-more.ensures c.loop-i.invariant
 
 pub twice_in_inits-returns : goal.twice_in_inits-returns
 twice_in_inits-returns t c =
@@ -41,8 +41,8 @@ twice_in_arms-twice_in_arm-requires t c =
 
 pub twice_in_arms-loop-i-preserved : goal.twice_in_arms-loop-i-preserved
 twice_in_arms-loop-i-preserved t c =
-    found_turn (λ x. or_else (twice_in_pattern c.args.tables.now.values x.0) (twice_in c.args.tables.now.values x.1)) (λ xs. twice_in_arms c.args.tables.now.values (s.arms xs)) (λ x xs. refl) refl c.args.items.now c.loop-i.i c.index-items-i.result c.loop-i.found c.in_ok-next.next c.first.result
-    (twice_in_arms c.args.tables.now.values (s.arms c.args.items.now)) (omega arith) c.index-items-i.is c.in_ok-next.ensures c.first.ensures c.loop-i.invariant
+    found_turn (λ x. or_else (twice_in_pattern c.args.tables.now.values x.0) (twice_in c.args.tables.now.values x.1)) (λ xs. twice_in_arms c.args.tables.now.values (s.arms xs)) (λ x xs. refl) refl c.args.items.now c.loop-i.i c.index-items-i.result c.loop-i.found c.in_ok-next.next c.first-more.result
+    (twice_in_arms c.args.tables.now.values (s.arms c.args.items.now)) (omega arith) c.index-items-i.is c.in_ok-next.ensures c.first-more.ensures c.loop-i.invariant
 
 pub twice_in_arms-returns : goal.twice_in_arms-returns
 twice_in_arms-returns t c =
@@ -55,8 +55,8 @@ twice_in_stmts-twice_in_stmt-requires t c =
 
 pub twice_in_stmts-loop-i-preserved : goal.twice_in_stmts-loop-i-preserved
 twice_in_stmts-loop-i-preserved t c =
-    found_turn (twice_in_stmt c.args.tables.now.values) (λ xs. twice_in_stmts c.args.tables.now.values (s.stmts xs)) (λ x xs. refl) refl c.args.items.now c.loop-i.i c.index-items-i.result c.loop-i.found c.in_ok-next.next c.first.result
-    (twice_in_stmts c.args.tables.now.values (s.stmts c.args.items.now)) (omega arith) c.index-items-i.is c.in_ok-next.ensures c.first.ensures c.loop-i.invariant
+    found_turn (twice_in_stmt c.args.tables.now.values) (λ xs. twice_in_stmts c.args.tables.now.values (s.stmts xs)) (λ x xs. refl) refl c.args.items.now c.loop-i.i c.index-items-i.result c.loop-i.found c.in_ok-next.next c.first-more.result
+    (twice_in_stmts c.args.tables.now.values (s.stmts c.args.items.now)) (omega arith) c.index-items-i.is c.in_ok-next.ensures c.first-more.ensures c.loop-i.invariant
 
 pub twice_in_stmts-returns : goal.twice_in_stmts-returns
 twice_in_stmts-returns t c =
