@@ -120,8 +120,9 @@ pub(crate) fn repeated_beside<T: Declares>(
     let mut before = IndexMap::new(alloc);
     let mut found = None;
     for i in 0..items.len() {
-        let name = items[i].name();
-        let place = items[i].span();
+        let item = &items[i];
+        let name = item.name();
+        let place = item.span();
         let early = earlier(seen, &before, name);
         let places = with_second(place, early);
         let more = first(found, places);

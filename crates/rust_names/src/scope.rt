@@ -1,4 +1,5 @@
-//! The names in scope.
+//! The names in scope: a map from each name to its newest variable, and a list with what each name
+//! hides, by which it is taken off again. So a name is found, added and taken off in constant time.
 
 ghost use Rattle.std.specs.Prelude.{◌≡◌, [], ◌∷◌, ◌++◌, ◌-◌, length, take, IfOk};
 ghost use Rattle.rust_names.specs.Scopes as spec;

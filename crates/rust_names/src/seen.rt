@@ -91,8 +91,9 @@ impl Seen {
         note_for(alloc, &mut values, of_values, name)?;
         note_for(alloc, &mut both, of_both, name)?;
         note_for(alloc, &mut parameters, of_parameters, name)?;
+        let own = name.name.try_clone(alloc)?;
         entries.push(Entry {
-            name: name.name.try_clone(alloc)?,
+            name: own,
             span: name.span,
             kind,
         })?;

@@ -1,7 +1,7 @@
 //! What a program declares twice.
 
 ghost use Rattle.std.specs.Prelude.{◌≡◌, [], ◌∷◌, ◌++◌, IfOk};
-ghost use Rattle.rust_names.specs.declared.entry.Kind.TheVariants as kind;
+ghost use Rattle.rust_names.specs.declared.entry.Kind.TheVariants as kinds;
 ghost use Rattle.rust_names.specs.Finding as finding;
 ghost use Rattle.rust_names.specs.Twice as spec;
 
@@ -51,7 +51,7 @@ fn name_place(seen: &Seen, kind: Kind, name: &Ident) -> Option<(Span, Span)>
 
 /// The names so far with type parameters.
 fn with_parameters(alloc: Global, seen: Seen, params: &[Ident]) -> Result<Seen, NoMem>
-    ensures { IfOk result (λ s. s ≡ seen ++ spec.entries kind.Parameter params.now) }
+    ensures { IfOk result (λ s. s ≡ seen ++ spec.entries kinds.Parameter params.now) }
 {
     let mut seen = seen;
     for i in 0..params.len() {
@@ -71,7 +71,7 @@ fn with_item_names(
 ) -> Result<(Option<(Span, Span)>, Option<(Span, Span)>, Seen), NoMem>
     ensures own { IfOk result (λ r. r.0 ≡ spec.twice_own seen (spec.entry kind name.now ∷ [])) }
     ensures parameters { IfOk result (λ r. r.1 ≡ spec.repeated_parameter (seen ++ spec.entry kind name.now ∷ []) [] params.now) }
-    ensures names { IfOk result (λ r. r.2 ≡ (seen ++ spec.entry kind name.now ∷ []) ++ spec.entries kind.Parameter params.now) }
+    ensures names { IfOk result (λ r. r.2 ≡ (seen ++ spec.entry kind name.now ∷ []) ++ spec.entries kinds.Parameter params.now) }
 {
     let own = name_place(&seen, kind, name);
     let named = seen.with(alloc, kind, name)?;

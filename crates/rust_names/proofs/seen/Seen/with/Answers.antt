@@ -1,14 +1,17 @@
-use Rattle.std.proofs.Common.{bytes_eq}
+use Rattle.std.proofs.Common.{◌≡◌, ℕ, List, [], ◌∷◌, ◌++◌, ap, ◌∙◌, bytes_eq}
 use Rattle.indexmap.specs.IndexMap.{get}
 use Rattle.rust_names.specs.declared.entry.Kind.TheVariants as kind
+use Rattle.rust_names.specs.declared.entry.Entry.{Entry}
+use Rattle.rust_names.specs.Twice.{entry}
 use Rattle.rust_names.proofs.Repeating.{noted}
 use Rattle.rust_names.proofs.seen.Seen.with.Goals as goal
 
 pub invariant_of-result : goal.invariant_of-result
 invariant_of-result c =
-    let es = c.self.inside.entries in
-    let ys = c.push.new.self in
-    let q = c.in_ok-push.ensures.ok in
+    let es : List Entry = c.self.inside.entries in
+    let ys : List Entry = c.push.new.self in
+    let q : ys ≡ es ++ entry c.args.kind c.args.name.now ∷ [] =
+    c.in_ok-push.ensures.ok ∙ ap (λ (n : List ℕ). es ++ record { name = n; span = c.args.name.now.span; kind = c.args.kind } ∷ []) c.in_ok-own.ensures in
     let k = c.args.kind in
     let i = c.args.name.now in (
       noted kind.Type k i es ys c.must_differ-of_types.result (get bytes_eq c.self.inside.types) (get bytes_eq c.note_for.new.table) c.must_differ-of_types.ensures q c.in_ok-note_for.ensures c.self.invariant.0,
