@@ -16,7 +16,7 @@ drop_none [] (suc i) h = refl
 drop_none (y ∷ ys) zero h = cc
 drop_none (y ∷ ys) (suc i) h = drop_none ys i h
 
-nothing_taken : (n : ℕ) → take n ([] {Variable}) ≡ []
+nothing_taken : (n : ℕ) → take n ([] {A = Variable}) ≡ []
 nothing_taken zero = refl
 nothing_taken (suc n) = refl
 

@@ -1,5 +1,5 @@
 -- The table of the names in scope, when a name is added and when the last is taken off.
-use Rattle.std.proofs.Common.{◌≡◌, ℕ, zero, suc, ◌+◌, ◌-◌, ◌<◌, ◌≤◌, Bool, true, false, cond, if◌then◌else◌, List, [], ◌∷◌, ◌++◌, length, take, Option, Some, None, refl, sym, ap, subst, ◌∙◌, arith}
+use Rattle.std.proofs.Common.{◌≡◌, ℕ, zero, suc, ◌+◌, ◌-◌, ◌<◌, ◌≤◌, Bool, true, false, cond, if◌then◌else◌, List, [], ◌∷◌, ◌++◌, length, take, Option, Some, None, refl, sym, ap, subst, ◌∙◌, arith, length-append}
 use Rattle.std.specs.Str.{bytes_eq}
 use Rattle.rust_names.specs.Finding.{or_else}
 use Rattle.rust_names.specs.Hiding.{pair, pairs, found, IsTable, Hide}
@@ -54,10 +54,15 @@ table_less old new xs n k hides same h t e w =
 
 -- ---- the first of a list
 
+take_front : {A : Type 0} (xs : List A) (x : A) → take (length xs) (xs ++ x ∷ []) ≡ xs
+take_front [] x = refl
+take_front (y ∷ ys) x = ap (λ zs. y ∷ zs) (take_front ys x)
+
+less_one : {A : Type 0} (xs : List A) (x : A) → length (xs ++ x ∷ []) - 1 ≡ length xs
+less_one xs x = let a = length-append xs (x ∷ []) in omega (arith, a)
+
 pub without_last : {A : Type 0} (xs : List A) (x : A) → take (length (xs ++ x ∷ []) - 1) (xs ++ x ∷ []) ≡ xs
-without_last [] x = refl
-without_last (y ∷ []) x = refl
-without_last (y ∷ z ∷ ys) x = ap (λ zs. y ∷ zs) (without_last (z ∷ ys) x)
+without_last xs x = ap (λ n. take n (xs ++ x ∷ [])) (less_one xs x) ∙ take_front xs x
 
 pub take_all : {A : Type 0} (n : ℕ) (xs : List A) → length xs ≤ n → take n xs ≡ xs
 take_all zero [] h = refl

@@ -26,8 +26,8 @@ returns-in_ok-insert-in-Some c =
     let were : c.args.self ≡ pairs names ++ pair last ∷ [] = sym c.self.view_is ∙ ap pairs c.in-Some.ensures ∙ pairs_more names last in
     sym (ap (λ ns. take (length ns - 1) ns) were ∙ without_last (pairs names) (pair last))
 
-pub invariant_of-result-in-None : goal.invariant_of-result-in-None
-invariant_of-result-in-None c =
+pub invariant_of-result : goal.invariant_of-result
+invariant_of-result c =
     let e : c.self.inside.names ≡ c.pop.new.self = c.in-None.ensures.0 ∙ sym c.in-None.ensures.1 in
     (λ w. c.self.invariant.0 w ∙ ap (λ xs. variable_of (pairs xs) w) e, subst (Hide []) e c.self.invariant.1)
 
