@@ -65,9 +65,13 @@ read_struct t x =
     and_then (read_struct_fields t (only_parameters x.params) x.fields) (λ fs.
     Ok (record { name = x.name.name; span = x.name.span; params = names_of x.params; is_struct = true; variants = (x.name.name, fs) ∷ [] }))
 
+-- in the types of its variants the parameters of an enum may stand
+unfoldable pub enum_variants : Tables → enums.Enum → Result (List (List ℕ × List (List ℕ × w.Written))) Span
+enum_variants t x = read_variants t (only_parameters x.params) x.variants
+
 unfoldable pub read_enum : Tables → enums.Enum → Result Declared Span
 read_enum t x =
-    and_then (read_variants t (only_parameters x.params) x.variants) (λ vs.
+    and_then (enum_variants t x) (λ vs.
     Ok (record { name = x.name.name; span = x.name.span; params = names_of x.params; is_struct = false; variants = vs }))
 
 -- ---- functions

@@ -174,13 +174,25 @@ fn resolve_variants(
     Ok(done)
 }
 
+/// The variants of an enum, in whose types its parameters may stand.
+#[tactic(auto, unfolding(crate::specs::Resolution::enum_variants))]
+fn enum_variants(
+    alloc: Global,
+    tables: &Tables,
+    e: &Enum,
+) -> Result<List<(Name, List<(Name, Written)>)>, Stop>
+    ensures { Gives (spec.enum_variants tables.now e.now) result }
+{
+    let generics = only_parameters(alloc, e.params.as_slice())?;
+    resolve_variants(alloc, tables, &generics, e.variants.as_slice())
+}
+
 /// An enum.
 #[tactic(auto, unfolding(crate::specs::Resolution::read_enum))]
 fn resolve_enum(alloc: Global, tables: &Tables, e: &Enum) -> Result<Declared, Stop>
     ensures { Gives (spec.read_enum tables.now e.now) result }
 {
-    let generics = only_parameters(alloc, e.params.as_slice())?;
-    let variants = resolve_variants(alloc, tables, &generics, e.variants.as_slice())?;
+    let variants = enum_variants(alloc, tables, e)?;
     Ok(Declared {
         name: e.name.name.try_clone(alloc)?,
         span: e.name.span,

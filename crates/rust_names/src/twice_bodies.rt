@@ -114,6 +114,18 @@ fn twice_in_all(
     Ok(found)
 }
 
+/// The first in the value of a field.
+#[cycle(bodies)]
+fn twice_in_init(
+    alloc: Global,
+    tables: &Tables,
+    item: &(Span, Name, Expr),
+) -> Result<Option<(Span, Span)>, NoMem>
+    ensures { IfOk result (λ p. p ≡ spec.twice_in tables.now.values item.now.2) }
+{
+    Ok(twice_in(alloc, tables, &item.2)?)
+}
+
 /// The first in the values of fields, in written order.
 #[cycle(bodies)]
 fn twice_in_inits(
@@ -125,7 +137,7 @@ fn twice_in_inits(
 {
     let mut found = None;
     for i in 0..items.len() {
-        let next = twice_in(alloc, tables, &items[i].2)?;
+        let next = twice_in_init(alloc, tables, &items[i])?;
         let more = first(found, next);
         found = more;
     }

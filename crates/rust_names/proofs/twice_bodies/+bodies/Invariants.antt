@@ -16,6 +16,9 @@ decreases-twice_in_maybe l = 3 * s.nodes_maybeexpr (s.maybeexpr l.e.now)
 abbrev pub decreases-twice_in_all : goal.decreases-twice_in_all
 decreases-twice_in_all l = 3 * s.nodes_exprs (s.exprs l.items.now)
 
+abbrev pub decreases-twice_in_init : goal.decreases-twice_in_init
+decreases-twice_in_init l = 3 * s.nodes_expr l.item.now.2 + 1
+
 abbrev pub decreases-twice_in_inits : goal.decreases-twice_in_inits
 decreases-twice_in_inits l = 3 * s.nodes_inits (s.inits l.items.now)
 
