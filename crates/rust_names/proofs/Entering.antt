@@ -16,9 +16,10 @@ drop_none [] (suc i) h = refl
 drop_none (y ∷ ys) zero h = cc
 drop_none (y ∷ ys) (suc i) h = drop_none ys i h
 
-nothing_taken : (n : ℕ) → take n ([] {A = Variable}) ≡ []
-nothing_taken zero = refl
-nothing_taken (suc n) = refl
+nothing_taken : (n : ℕ) (xs : List Variable) → xs ≡ [] → take n xs ≡ []
+nothing_taken zero xs h = refl
+nothing_taken (suc n) [] h = refl
+nothing_taken (suc n) (x ∷ xs) h = cc
 
 later : (a b : ℕ) → a < b → b - a ≡ suc (b - suc a)
 later a b h = omega arith
@@ -37,7 +38,7 @@ enters a b vs sc v h e =
 
 -- there is no more
 pub enters_none : (a b : ℕ) (vs : List Variable) (sc : List (List ℕ × ℕ)) → slice_get vs a ≡ None → with_variables a b vs sc ≡ sc
-enters_none a b vs sc e = ap (λ ys. sc ++ numbered a (take (b - a) ys)) (drop_none vs a e) ∙ ap (λ ys. sc ++ numbered a ys) (nothing_taken (b - a)) ∙ with_nothing sc
+enters_none a b vs sc e = ap (λ ys. sc ++ numbered a ys) (nothing_taken (b - a) (drop a vs) (drop_none vs a e)) ∙ with_nothing sc
 
 pub enters_all : (a b : ℕ) (vs : List Variable) (sc : List (List ℕ × ℕ)) → b ≤ a → with_variables a b vs sc ≡ sc
 enters_all a b vs sc h = ap (λ n. sc ++ numbered a (take n (drop a vs))) (nothing_left a b h) ∙ with_nothing sc

@@ -7,3 +7,5 @@ pub mod ScopeTables
 pub mod Entering
 pub mod Repeating
 pub mod Counting
+pub mod Bodies
+pub mod Items

@@ -8,10 +8,14 @@ use Rattle.rust_names.specs.declared.entry.Entry.{Entry}
 use Rattle.rust_names.specs.declared.entry.Kind.{Kind}
 use Rattle.rust_names.specs.declared.entry.Kind.TheVariants as kind
 use Rattle.rust_ast.specs.declared.program.Item.{Item}
+use Rattle.rust_ast.specs.declared.program.Item.TheVariants as forms
+use Rattle.rust_ast.specs.declared.program.Function as functions
+use Rattle.rust_ast.specs.declared.program.Enum as enums
+use Rattle.rust_ast.specs.declared.program.Variant as variants
 use Rattle.rust_names.specs.declared.tables.ValueNames.{ValueNames}
 use Rattle.rust_names.specs.Finding.{or_else}
 use Rattle.rust_names.specs.FirstPlaces.{AreFirst}
-use Rattle.rust_names.specs.Twice.{Pair, with_second, must_differ, first_like, first_named, repeated, repeated_parameter, twice_own, entry, twice_in_item, twice_in_items, with_entries}
+use Rattle.rust_names.specs.Twice.{Pair, with_second, must_differ, first_like, first_named, repeated, repeated_parameter, twice_own, entry, param_idents, variant_idents, twice_in_block, twice_in_item, twice_in_items, with_entries}
 use Rattle.rust_names.proofs.Placing.{taken}
 use Rattle.rust_names.proofs.Walking.{drop_at, drop_all}
 
@@ -123,3 +127,23 @@ items_turn vs items i x seen next found places new whole l h p q n inv =
 
 pub items_end : (vs : List ValueNames) (items : List Item) (i : ℕ) (seen : List Entry) (found whole : Pair) → length items ≤ i → or_else found (twice_in_items vs seen (drop i items)) ≡ whole → found ≡ whole
 items_end vs items i seen found whole l inv = sym (or_none found) ∙ ap (λ ys. or_else found (twice_in_items vs seen ys)) (sym (drop_all items i l)) ∙ inv
+
+pub function_twice : (vs : List ValueNames) (seen : List Entry) (f : functions.Function) (ps ls : List Ident) (own params lifetimes inside rest later places : Pair) → ps ≡ f.type_params → ls ≡ f.lifetimes →
+    own ≡ twice_own seen (entry kind.Value f.name ∷ []) → params ≡ repeated_parameter (seen ++ entry kind.Value f.name ∷ []) [] ps → lifetimes ≡ repeated [] ls →
+    inside ≡ or_else (repeated [] (param_idents f.params)) (twice_in_block vs f.body) → rest ≡ or_else params inside → later ≡ or_else lifetimes rest → places ≡ or_else own later →
+    places ≡ twice_in_item vs seen (forms.Function f)
+unfolding twice_in_item
+function_twice vs seen f ps ls own params lifetimes inside rest later places p l a b c d e g h =
+    h ∙ ap (or_else own) (g ∙ ap (or_else lifetimes) e)
+    ∙ (λ i. or_else (a i) (or_else (c i) (or_else (b i) (d i))))
+    ∙ (λ i. or_else (twice_own seen (entry kind.Value f.name ∷ [])) (or_else (repeated [] (l i)) (or_else (repeated_parameter (seen ++ entry kind.Value f.name ∷ []) [] (p i))
+    (or_else (repeated [] (param_idents f.params)) (twice_in_block vs f.body)))))
+
+pub enum_twice : (vs : List ValueNames) (seen : List Entry) (x : enums.Enum) (ps : List Ident) (vars : List variants.Variant) (own params inside rest places : Pair) → ps ≡ x.params → vars ≡ x.variants →
+    own ≡ twice_own seen (entry kind.Type x.name ∷ []) → params ≡ repeated_parameter (seen ++ entry kind.Type x.name ∷ []) [] ps → inside ≡ repeated [] (variant_idents vars) →
+    rest ≡ or_else params inside → places ≡ or_else own rest → places ≡ twice_in_item vs seen (forms.Enum x)
+unfolding twice_in_item
+enum_twice vs seen x ps vars own params inside rest places p l a b d e h =
+    h ∙ ap (or_else own) e
+    ∙ (λ i. or_else (a i) (or_else (b i) (d i)))
+    ∙ (λ i. or_else (twice_own seen (entry kind.Type x.name ∷ [])) (or_else (repeated_parameter (seen ++ entry kind.Type x.name ∷ []) [] (p i)) (repeated [] (variant_idents (l i)))))

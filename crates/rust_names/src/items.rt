@@ -175,7 +175,6 @@ fn resolve_variants(
 }
 
 /// The variants of an enum, in whose types its parameters may stand.
-#[tactic(auto, unfolding(crate::specs::Resolution::enum_variants))]
 fn enum_variants(
     alloc: Global,
     tables: &Tables,
@@ -184,7 +183,8 @@ fn enum_variants(
     ensures { Gives (spec.enum_variants tables.now e.now) result }
 {
     let generics = only_parameters(alloc, e.params.as_slice())?;
-    resolve_variants(alloc, tables, &generics, e.variants.as_slice())
+    let variants = e.variants.as_slice();
+    resolve_variants(alloc, tables, &generics, variants)
 }
 
 /// An enum.
@@ -266,18 +266,21 @@ fn resolve_function(alloc: Global, tables: &Tables, f: &program::Function) -> Re
     ensures { Gives (spec.read_function tables.now f.now) result }
 {
     let generics = function_generics(alloc, f)?;
+    let name = f.name.name.try_clone(alloc)?;
+    let lifetimes = names_of(alloc, f.lifetimes.as_slice())?;
+    let type_params = names_of(alloc, f.type_params.as_slice())?;
+    let start = beginning(alloc, f.params.as_slice())?;
     let params = param_types(alloc, tables, &generics, f.params.as_slice())?;
     let result = resolve_maybe_type(alloc, tables, &generics, &f.result)?;
-    let state = beginning(alloc, f.params.as_slice())?;
-    let (body, state) = resolve_block(alloc, tables, &generics, &f.body, state)?;
+    let (body, after) = resolve_block(alloc, tables, &generics, &f.body, start)?;
     Ok(Function {
-        name: f.name.name.try_clone(alloc)?,
+        name,
         span: f.name.span,
-        lifetimes: names_of(alloc, f.lifetimes.as_slice())?,
-        type_params: names_of(alloc, f.type_params.as_slice())?,
+        lifetimes,
+        type_params,
         params,
         result,
-        variables: state.variables,
+        variables: after.variables,
         body,
     })
 }

@@ -1,6 +1,7 @@
 //! What a program declares twice.
 
 ghost use Rattle.std.specs.Prelude.{◌≡◌, [], ◌∷◌, ◌++◌, IfOk};
+ghost use Rattle.rust_ast.specs.declared.program.Item.TheVariants as items;
 ghost use Rattle.rust_names.specs.declared.entry.Kind.TheVariants as kinds;
 ghost use Rattle.rust_names.specs.Finding as finding;
 ghost use Rattle.rust_names.specs.Twice as spec;
@@ -12,7 +13,7 @@ use crate::tables::Tables;
 use crate::twice_bodies::twice_in_block;
 use aen_base::{NoMem, Span};
 use rust_ast::Ident;
-use rust_ast::program::{Fields, Function, Item};
+use rust_ast::program::{Enum, Fields, Function, Item, Variant};
 use std::alloc::Global;
 
 /// What a struct's name may not have in common with another.
@@ -93,6 +94,51 @@ fn twice_in_function(
     Ok(first(params, body))
 }
 
+/// The first in a function, and the names so far with the function's.
+fn twice_in_named_function(
+    alloc: Global,
+    tables: &Tables,
+    seen: Seen,
+    f: &Function,
+) -> Result<(Option<(Span, Span)>, Seen), NoMem>
+    ensures places { IfOk result (λ r. r.0 ≡ spec.twice_in_item tables.now.values seen (items.Function f.now)) }
+    ensures names { IfOk result (λ r. r.1 ≡ spec.with_entries seen (items.Function f.now)) }
+{
+    let parameters = f.type_params.as_slice();
+    let (own, params, more) = with_item_names(alloc, seen, Kind::Value, &f.name, parameters)?;
+    let lifetimes = repeated_idents(alloc, f.lifetimes.as_slice())?;
+    let inside = twice_in_function(alloc, tables, f)?;
+    let rest = first(params, inside);
+    let later = first(lifetimes, rest);
+    let places = first(own, later);
+    Ok((places, more))
+}
+
+/// The first variant's name that stands before it.
+fn repeated_variant(alloc: Global, variants: &[Variant]) -> Result<Option<(Span, Span)>, NoMem>
+    ensures { IfOk result (λ p. p ≡ spec.repeated [] (spec.variant_idents variants.now)) }
+{
+    Ok(repeated(alloc, variants)?)
+}
+
+/// The first in an enum, and the names so far with the enum's.
+fn twice_in_enum(
+    alloc: Global,
+    tables: &Tables,
+    seen: Seen,
+    e: &Enum,
+) -> Result<(Option<(Span, Span)>, Seen), NoMem>
+    ensures places { IfOk result (λ r. r.0 ≡ spec.twice_in_item tables.now.values seen (items.Enum e.now)) }
+    ensures names { IfOk result (λ r. r.1 ≡ spec.with_entries seen (items.Enum e.now)) }
+{
+    let parameters = e.params.as_slice();
+    let (own, params, more) = with_item_names(alloc, seen, Kind::Type, &e.name, parameters)?;
+    let inside = repeated_variant(alloc, e.variants.as_slice())?;
+    let rest = first(params, inside);
+    let places = first(own, rest);
+    Ok((places, more))
+}
+
 /// The first in an item, and the names so far with the item's.
 #[tactic(auto, unfolding(crate::specs::Twice::twice_in_item))]
 fn twice_in_item(
@@ -105,13 +151,7 @@ fn twice_in_item(
     ensures names { IfOk result (λ r. r.1 ≡ spec.with_entries seen item.now) }
 {
     match item {
-        Item::Function(f) => {
-            let params = f.type_params.as_slice();
-            let (own, params, seen) = with_item_names(alloc, seen, Kind::Value, &f.name, params)?;
-            let lifetimes = repeated_idents(alloc, f.lifetimes.as_slice())?;
-            let inside = twice_in_function(alloc, tables, f)?;
-            Ok((first(own, first(lifetimes, first(params, inside))), seen))
-        }
+        Item::Function(f) => Ok(twice_in_named_function(alloc, tables, seen, f)?),
         Item::Struct(s) => {
             let kind = struct_kind(&s.fields);
             let params = s.params.as_slice();
@@ -119,12 +159,7 @@ fn twice_in_item(
             let inside = repeated_field(alloc, &s.fields)?;
             Ok((first(own, first(params, inside)), seen))
         }
-        Item::Enum(e) => {
-            let params = e.params.as_slice();
-            let (own, params, seen) = with_item_names(alloc, seen, Kind::Type, &e.name, params)?;
-            let inside = repeated(alloc, e.variants.as_slice())?;
-            Ok((first(own, first(params, inside)), seen))
-        }
+        Item::Enum(e) => Ok(twice_in_enum(alloc, tables, seen, e)?),
         Item::UseMem => Ok((None, seen)),
     }
 }

@@ -3,6 +3,7 @@
 ghost use Rattle.std.specs.Prelude.{◌≡◌, false, length, IfOk};
 ghost use Rattle.rust_ast.specs.Resolved as resolved;
 ghost use Rattle.rust_ast.specs.Source as source;
+ghost use Rattle.rust_ast.specs.SourceTypes as types;
 ghost use Rattle.rust_names.specs.Gives.{Gives, GivesAs};
 ghost use Rattle.rust_names.specs.PatternUses as patterns;
 ghost use Rattle.rust_names.specs.Uses as spec;
@@ -64,18 +65,11 @@ pub(crate) fn resolve_expr(
             let node = ExprNode::Select(*span, scrutinee, arms);
             Ok((Expr { node }, state))
         }
-        source::ExprNode::LetBranch(span, pat, scrutinee, yes, no) => {
-            let from = state.variables.len();
-            let (pat, state) = resolve_pat(alloc, tables, generics, false, pat, state)?;
-            let to = state.variables.len();
-            let (scrutinee, state) = one(alloc, tables, generics, scrutinee.get(), state)?;
-            let count = state.scope.len();
-            let state = state.enter(alloc, from, to)?;
-            let (yes, state) = resolve_expr(alloc, tables, generics, yes.get(), state)?;
-            let state = state.leave(count)?;
-            let (no, state) = resolve_expr(alloc, tables, generics, no.get(), state)?;
-            let select = two_arms(alloc, *span, scrutinee, pat, yes, no)?;
-            Ok((select, state))
+        source::ExprNode::LetBranch(span, pat, a, b, c) => {
+            let value = a.get();
+            let yes = b.get();
+            let no = c.get();
+            Ok(let_branch(alloc, tables, generics, *span, pat, value, yes, no, state)?)
         }
         source::ExprNode::Forever(span, is_while, body) => {
             let number = state.loops;
@@ -258,6 +252,34 @@ fn resolve_maybe(
     }
 }
 
+/// An `if let`: the pattern's names have the first numbers, and come into scope behind the value.
+#[cycle(uses)]
+fn let_branch(
+    alloc: Global,
+    tables: &Tables,
+    generics: &Generics,
+    span: Span,
+    pat: &source_patterns::Pat,
+    value: &source::Expr,
+    matched: &source::Expr,
+    other: &source::Expr,
+    state: State,
+) -> Result<(Expr, State), Stop>
+    ensures { Gives (spec.read tables.now generics.now (source.let_branch span pat.now value.now matched.now other.now) state) result }
+{
+    let from = state.variables.len();
+    let (pat, bound) = resolve_pat(alloc, tables, generics, false, pat, state)?;
+    let to = bound.variables.len();
+    let (scrutinee, known) = one(alloc, tables, generics, value, bound)?;
+    let count = known.scope.len();
+    let inner = known.enter(alloc, from, to)?;
+    let (matched, after) = resolve_expr(alloc, tables, generics, matched, inner)?;
+    let outer = after.leave(count)?;
+    let (other, last) = resolve_expr(alloc, tables, generics, other, outer)?;
+    let select = two_arms(alloc, span, scrutinee, pat, matched, other)?;
+    Ok((select, last))
+}
+
 /// An `if let`: a `match` with the pattern's arm, and that of any other value.
 fn two_arms(
     alloc: Global,
@@ -389,23 +411,35 @@ pub(crate) fn resolve_block(
 ) -> Result<(Block, State), Stop>
     ensures { Gives (spec.read_block tables.now generics.now block.now state) result }
 {
-    let count = state.scope.len();
     match &block.node {
         source::BlockNode::Block(span, statements, last) => {
-            let (statements, state) = resolve_stmts(
-                alloc,
-                tables,
-                generics,
-                statements.as_slice(),
-                state,
-            )?;
-            let (last, state) = resolve_maybe(alloc, tables, generics, last, state)?;
-            let block = Block {
-                node: BlockNode::Block(*span, statements, last),
-            };
-            Ok((block, state.leave(count)?))
+            let statements = statements.as_slice();
+            Ok(block_of(alloc, tables, generics, *span, statements, last, state)?)
         }
     }
+}
+
+/// A block of these statements and this last expression.
+#[cycle(uses)]
+fn block_of(
+    alloc: Global,
+    tables: &Tables,
+    generics: &Generics,
+    span: Span,
+    statements: &[source::Stmt],
+    last: &Option<Boxed<source::Expr>>,
+    state: State,
+) -> Result<(Block, State), Stop>
+    ensures { Gives (spec.read_block tables.now generics.now (source.block span (source.stmts statements.now) (source.maybeexpr last.now)) state) result }
+{
+    let count = state.scope.len();
+    let (statements, inner) = resolve_stmts(alloc, tables, generics, statements, state)?;
+    let (last, after) = resolve_maybe(alloc, tables, generics, last, inner)?;
+    let block = Block {
+        node: BlockNode::Block(span, statements, last),
+    };
+    let outer = after.leave(count)?;
+    Ok((block, outer))
 }
 
 /// Statements in order.
@@ -449,18 +483,36 @@ fn resolve_stmt(
             Ok((stmt, state))
         }
         source::StmtNode::Bind(span, pat, ty, value) => {
-            let from = state.variables.len();
-            let late = is_nothing(value);
-            let (pat, state) = resolve_pat(alloc, tables, generics, late, pat, state)?;
-            let to = state.variables.len();
-            let ty = resolve_maybe_type(alloc, tables, generics, ty)?;
-            let (value, state) = resolve_maybe(alloc, tables, generics, value, state)?;
-            let stmt = Stmt {
-                node: StmtNode::Bind(*span, pat, ty, value),
-            };
-            Ok((stmt, state.enter(alloc, from, to)?))
+            Ok(resolve_let(alloc, tables, generics, *span, pat, ty, value, state)?)
         }
     }
+}
+
+/// A `let`: its names have the first numbers, and come into scope behind its value.
+#[cycle(uses)]
+fn resolve_let(
+    alloc: Global,
+    tables: &Tables,
+    generics: &Generics,
+    span: Span,
+    pat: &source_patterns::Pat,
+    ty: &Option<source_types::Written>,
+    value: &Option<Boxed<source::Expr>>,
+    state: State,
+) -> Result<(Stmt, State), Stop>
+    ensures { Gives (spec.read_stmt tables.now generics.now (source.bind span pat.now (types.maybewritten ty.now) (source.maybeexpr value.now)) state) result }
+{
+    let from = state.variables.len();
+    let late = is_nothing(value);
+    let (pat, bound) = resolve_pat(alloc, tables, generics, late, pat, state)?;
+    let to = bound.variables.len();
+    let ty = resolve_maybe_type(alloc, tables, generics, ty)?;
+    let (value, after) = resolve_maybe(alloc, tables, generics, value, bound)?;
+    let stmt = Stmt {
+        node: StmtNode::Bind(span, pat, ty, value),
+    };
+    let entered = after.enter(alloc, from, to)?;
+    Ok((stmt, entered))
 }
 
 /// Whether a `let` has no value.

@@ -18,6 +18,15 @@ decreases-two l = 3 * (s.nodes_expr l.a.now + s.nodes_expr l.b.now) + 2
 abbrev pub decreases-boxed_block : goal.decreases-boxed_block
 decreases-boxed_block l = 3 * s.nodes_block l.block.now + 1
 
+abbrev pub decreases-let_branch : goal.decreases-let_branch
+decreases-let_branch l = 3 * (s.nodes_expr l.value.now + s.nodes_expr l.matched.now + s.nodes_expr l.other.now) + 2
+
+abbrev pub decreases-block_of : goal.decreases-block_of
+decreases-block_of l = 3 * (s.nodes_stmts (s.stmts l.statements.now) + s.nodes_maybeexpr (s.maybeexpr l.last.now)) + 1
+
+abbrev pub decreases-resolve_let : goal.decreases-resolve_let
+decreases-resolve_let l = 3 * s.nodes_maybeexpr (s.maybeexpr l.value.now) + 1
+
 abbrev pub decreases-resolve_maybe : goal.decreases-resolve_maybe
 decreases-resolve_maybe l = 3 * s.nodes_maybeexpr (s.maybeexpr l.e.now)
 
