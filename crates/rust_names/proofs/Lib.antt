@@ -8,4 +8,4 @@ pub mod Entering
 pub mod Repeating
 pub mod Counting
 pub mod Bodies
-pub mod Items
+pub mod ItemParts

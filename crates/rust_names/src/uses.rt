@@ -19,7 +19,7 @@ use crate::type_uses::{beside, resolve_maybe_type, turbos};
 use aen_base::{Boxed, List, Name, NoMem, Span};
 use rust_ast::patterns::{Pat, PatNode};
 use rust_ast::resolved::{Block, BlockNode, Expr, ExprNode, Stmt, StmtNode};
-use rust_ast::{source, source_patterns};
+use rust_ast::{source, source_patterns, source_types};
 use std::alloc::Global;
 
 /// An expression with names resolved, and what is known after it.

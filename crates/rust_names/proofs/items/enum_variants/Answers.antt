@@ -1,6 +1,6 @@
 use Rattle.std.proofs.Common.{◌∙◌, ap}
 use Rattle.rust_names.specs.Resolution.{only_parameters}
-use Rattle.rust_names.proofs.Items.{variants_give}
+use Rattle.rust_names.proofs.ItemParts.{variants_give}
 use Rattle.rust_names.proofs.items.enum_variants.Goals as goal
 
 pub returns : goal.returns

@@ -1,7 +1,7 @@
 use Rattle.std.proofs.Common.{◌∙◌, ap}
 use Rattle.rust_names.specs.Resolution.{beginning}
 use Rattle.rust_names.specs.Tables.{names_of}
-use Rattle.rust_names.proofs.Items.{function_gives}
+use Rattle.rust_names.proofs.ItemParts.{function_gives}
 use Rattle.rust_names.proofs.items.resolve_function.Goals as goal
 
 pub returns : goal.returns
