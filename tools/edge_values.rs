@@ -1,8 +1,8 @@
-//! Writes the table of edge values for the arithmetic test of `aen_base`: for each operator and each
+//! Writes the table of edge values for the arithmetic test in `base_rows`: for each operator and each
 //! integer type, what Rust itself computes with overflow checks.
 //!
 //!     rustc --edition 2021 -o /tmp/edge_values tools/edge_values.rs
-//!     /tmp/edge_values > crates/aen_base/src/edge_values.rt
+//!     /tmp/edge_values > crates/base_rows/src/edge_values.rt
 //!
 //! A line has an operator, a type and rows. A row is left side, right side and result. The result is
 //! a number or a truth value, or `overflow` or `zero` where Rust panics. `Neg` and `Not` have no

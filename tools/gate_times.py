@@ -6,7 +6,8 @@
 
 rt ci tells no times and prints a proof's lines when it has ended. So with --stamp the processor time of the provers is
 looked up once a second, by crate and by what is proved: the crate, its tests, or the crate with an edit (the check that
-edits begin with among them). Each sum is written as it grows, in lines that begin with `times:`.
+edits begin with among them). Provers of other checkouts are left out. Each sum is written as it grows, in lines that
+begin with `times:`.
 """
 import os
 import re
@@ -28,12 +29,14 @@ def provers():
                 continue
             name = words[words.index("--crate-name") + 1]
             place = os.readlink(f"/proc/{pid}/cwd")
+            is_edit = os.path.basename(place).startswith("rt-edit")
+            if not is_edit and not place.startswith(os.getcwd() + os.sep):
+                continue
             with open(f"/proc/{pid}/stat") as it:
                 spent = it.read().rsplit(")", 1)[1].split()[11:13]
         except (OSError, ValueError, IndexError):
             # (it ended meanwhile)
             continue
-        is_edit = os.path.basename(place).startswith("rt-edit")
         kind = "edits" if is_edit else "tests" if "--test" in words else "check"
         yield pid, name, kind, sum(map(int, spent)) / TICK
 

@@ -8,10 +8,6 @@ mod bitwise;
 mod boxed;
 mod comparison;
 mod decimals;
-#[cfg(test)]
-mod edge_tests;
-#[cfg(test)]
-mod edge_values;
 mod ids;
 mod int_ty;
 mod limits;

@@ -3,7 +3,7 @@
 ghost use Rattle.std.specs.Prelude.{◌≡◌, IfSome};
 
 use crate::edge_values::EDGE_VALUES;
-use crate::{BinOp, CmpOp, IntTy, Num, PanicKind, cast, checked, compare, invert, negate, num};
+use aen_base::{BinOp, CmpOp, IntTy, Num, PanicKind, cast, checked, compare, invert, negate, num};
 
 fn type_named(name: &str) -> Option<IntTy> {
     match name {
