@@ -1,0 +1,4 @@
+pub mod Naming
+pub mod Steps
+pub mod Typed
+pub mod Named

@@ -1,0 +1,184 @@
+-- A program of sums that is found is typed.
+use Rattle.std.proofs.Common.{◌≡◌, refl, sym, subst, ap, ◌∙◌, ℕ, ◌+◌, ◌<◌, ◌≤◌, Bool, true, false, List, [], ◌∷◌, ◌++◌, length, map, Option, Some, None, arith, append_assoc, eqb-true, leb-true}
+use Rattle.std.proofs.lemmas.Bool.{and_parts}
+use Rattle.std.proofs.lemmas.Option.{same_Some}
+use Rattle.std.specs.Prelude.{◌&&◌, ◌==◌, nat_lt, nat_le, slice_get, pos}
+use Rattle.aen_base.specs.Arithmetic.{number as number_of}
+use Rattle.aen_base.specs.Numbers.{limit, in_range}
+use Rattle.aen_base.specs.declared.int_ty.IntTy.TheVariants.{U32}
+use Rattle.aen_base.specs.declared.span.Span.{Span}
+use Rattle.rust_ast.specs.Patterns as p
+use Rattle.rust_ast.specs.Resolved as r
+use Rattle.rust_ast.specs.Written as w
+use Rattle.rust_ast.specs.declared.resolution.Function as resolved
+use Rattle.rust_ast.specs.declared.resolution.Resolved.{Resolved}
+use Rattle.sums_ast.specs.Tree as t
+use Rattle.sums_ast.specs.declared.function.Function as sums
+use Rattle.sums_ast.specs.declared.function.Program.{Program}
+use Rattle.source_meaning.specs.Typing.{IsU32, IsCallee, IsTypedExpr, AreTypedExprs, IsTypedBody, IsTypedBlock, IsTypedFunction, AreTyped, IsTyped}
+use Rattle.rust_sums.specs.Gets.{and_then, where_}
+use Rattle.rust_sums.specs.Names.{is_name}
+use Rattle.rust_sums.specs.Sums as spec
+use Rattle.rust_sums.proofs.Steps.{found_after, found_where}
+
+-- a list that is found behind another
+abbrev Behind : {A : Type 0} → (List A → Type 0) → List A → List A → Type 0
+Behind P before all = (rest : List _) × (all ≡ before ++ rest) × P rest
+
+behind_more : {A : Type 0} (before rest all : List A) (x : A) → all ≡ (before ++ x ∷ []) ++ rest → all ≡ before ++ x ∷ rest
+behind_more before rest all x e = e ∙ append_assoc before (x ∷ []) rest
+
+small : (n : ℕ) → in_range U32 (pos n) ≡ true → n < 2 ^ 32
+unfolding limit
+small n h = let e = leb-true (n + 1) (2 ^ 32) h in omega arith
+
+literal_typed : (earlier : List sums.Function) (count : ℕ) (s : Span) (expected negative : Bool) (n : ℕ) (x : p.Suffix) (e : t.Expr) →
+    spec.literal s expected negative n x ≡ Some e → IsTypedExpr earlier count e
+literal_typed earlier count s expected negative n x e h =
+    let one = found_where _ _ e h in
+    let two = found_where (in_range U32 (pos n)) _ e one.1 in
+    subst (IsTypedExpr earlier count) (same_Some _ e two.1) (record { mag = n; small = small n two.0; same = refl })
+
+callee_is : (earlier : List sums.Function) (f n : ℕ) (o : Option sums.Function) → slice_get earlier f ≡ o → spec.takes n o ≡ true → IsCallee earlier f n
+callee_is earlier f n None is h = absurd cc
+callee_is earlier f n (Some g) is h = record { callee = g; found = is; arity = eqb-true g.parameters n h }
+
+module _ (earlier : List sums.Function) (count : ℕ) where
+  mutual
+    expr_typed : (expected : Bool) (a : r.Expr) (e : t.Expr) → spec.expr earlier count expected a ≡ Some e → IsTypedExpr earlier count e
+    expr_typed expected (r.number s negative n x) e h = literal_typed earlier count s expected negative n x e h
+    expr_typed expected (r.variable s k) e h =
+        let one = found_where (nat_lt k count) _ e h in
+        let lt : k < count = leb-true _ _ one.0 in
+        subst (IsTypedExpr earlier count) (same_Some _ e one.1) lt
+    expr_typed expected (r.binary s op a b) e h =
+        let one = found_where _ _ e h in
+        let (x, left, h2) = found_after _ _ e one.1 in
+        let (y, right, h3) = found_after _ _ e h2 in
+        subst (IsTypedExpr earlier count) (same_Some _ e h3) (refl, expr_typed _ a x left, expr_typed _ b y right)
+    expr_typed expected (r.call s c ts args) e h =
+        let (f, is, h2) = found_after _ _ e h in
+        let (xs, parts, h3) = found_after _ _ e h2 in
+        let four = found_where _ _ e h3 in
+        let (rest, all, typed) = exprs_typed [] args xs parts in
+        let same : xs ≡ t.exprs_list (t.exprs xs) = sym (t.exprs_back xs) in
+        subst (IsTypedExpr earlier count) (same_Some _ e four.1)
+        (subst (λ (l : List t.Expr). IsCallee earlier f (length l)) same (callee_is earlier f (length xs) _ refl four.0),
+        subst (λ (l : List t.Expr). AreTypedExprs earlier count (t.exprs l)) (sym all) typed)
+    expr_typed expected (r.truth s b) e h = absurd cc
+    expr_typed expected (r.tuple s xs) e h = absurd cc
+    expr_typed expected (r.inner b) e h = absurd cc
+    expr_typed expected (r.branch s a b c) e h = absurd cc
+    expr_typed expected (r.select s a arms) e h = absurd cc
+    expr_typed expected (r.forever s k m b) e h = absurd cc
+    expr_typed expected (r.panic s) e h = absurd cc
+    expr_typed expected (r.literal s d k ts xs) e h = absurd cc
+    expr_typed expected (r.field s a f n) e h = absurd cc
+    expr_typed expected (r.minus s a) e h = absurd cc
+    expr_typed expected (r.negation s a) e h = absurd cc
+    expr_typed expected (r.deref s a) e h = absurd cc
+    expr_typed expected (r.borrow s m a) e h = absurd cc
+    expr_typed expected (r.compare s op a b) e h = absurd cc
+    expr_typed expected (r.both s a b) e h = absurd cc
+    expr_typed expected (r.either s a b) e h = absurd cc
+    expr_typed expected (r.cast s a i) e h = absurd cc
+    expr_typed expected (r.assign s a b) e h = absurd cc
+    expr_typed expected (r.update s op a b) e h = absurd cc
+    expr_typed expected (r.give s o) e h = absurd cc
+    expr_typed expected (r.leave s o) e h = absurd cc
+    expr_typed expected (r.go_on s) e h = absurd cc
+
+    exprs_typed : (before : List t.Expr) (args : r.Exprs) (all : List t.Expr) → spec.exprs earlier count before args ≡ Some all →
+        (rest : List t.Expr) × (all ≡ before ++ rest) × AreTypedExprs earlier count (t.exprs rest)
+    exprs_typed before r.no_exprs all h = ([], sym (same_Some before all h) ∙ sym (append_nil before), tt)
+    exprs_typed before (r.more_exprs a args) all h =
+        let (x, is, h2) = found_after _ _ all h in
+        let (rest, e, typed) = exprs_typed (before ++ x ∷ []) args all h2 in
+        (x ∷ rest, behind_more before rest all x e, (expr_typed true a x is, typed))
+
+module _ (earlier : List sums.Function) (total : ℕ) where
+  value_typed : (count : ℕ) (ty : w.MaybeWritten) (o : r.MaybeExpr) (e : t.Expr) → spec.value_of earlier count ty o ≡ Some e → IsTypedExpr earlier count e
+  value_typed count ty r.no_maybeexpr e h = absurd cc
+  value_typed count ty (r.some_maybeexpr a) e h =
+      let (expected, is, h2) = found_after _ _ e h in
+      expr_typed earlier count expected a e h2
+
+  stmt_typed : (count : ℕ) (x : r.Stmt) (y : t.Stmt) → spec.stmt earlier count total x ≡ Some y →
+      (s : Span) × (e : t.Expr) × (y ≡ t.bind s count e) × IsTypedExpr earlier count e
+  stmt_typed count (r.run e semicolon) y h = absurd cc
+  stmt_typed count (r.bind s x ty o) y h =
+      let one = found_where _ _ y h in
+      let (e, is, h2) = found_after _ _ y one.1 in
+      (s, e, sym (same_Some _ y h2), value_typed count ty o e is)
+
+  stmts_typed : (count : ℕ) (before : List t.Stmt) (ss : r.Stmts) (all : List t.Stmt) → spec.stmts earlier count total before ss ≡ Some all →
+      (rest : List t.Stmt) × (all ≡ before ++ rest)
+      × ((e : t.Expr) → IsTypedExpr earlier total e → IsTypedBody earlier total count (t.stmts rest) (t.some_maybeexpr e))
+  stmts_typed count before r.no_stmts all h =
+      let one = found_where _ _ all h in
+      ([], sym (same_Some before all one.1) ∙ sym (append_nil before), λ e typed. (eqb-true count total one.0, typed))
+  stmts_typed count before (r.more_stmts x ss) all h =
+      let (y, is, h2) = found_after _ _ all h in
+      let (s, v, same, typed_value) = stmt_typed count x y is in
+      let (rest, e, typed) = stmts_typed (count + 1) (before ++ y ∷ []) ss all h2 in
+      (y ∷ rest, behind_more before rest all y e,
+      λ z typed_z. subst (λ (q : t.Stmt). IsTypedBody earlier total count (t.more_stmts q (t.stmts rest)) (t.some_maybeexpr z)) (sym same) (refl, typed_value, typed z typed_z))
+
+  last_typed : (o : r.MaybeExpr) (e : t.Expr) → spec.last earlier total o ≡ Some e → IsTypedExpr earlier total e
+  last_typed r.no_maybeexpr e h = absurd cc
+  last_typed (r.some_maybeexpr a) e h = expr_typed earlier total true a e h
+
+  body_typed : (count : ℕ) (x : r.Block) (b : t.Block) → spec.body earlier count total x ≡ Some b → IsTypedBlock earlier total count b
+  body_typed count (r.block s ss o) b h =
+      let (ys, is, h2) = found_after _ _ b h in
+      let (e, value, h3) = found_after _ _ b h2 in
+      let (rest, all, typed) = stmts_typed count [] ss ys is in
+      subst (IsTypedBlock earlier total count) (same_Some _ b h3)
+      (subst (λ (l : List t.Stmt). IsTypedBody earlier total count (t.stmts l) (t.some_maybeexpr e)) (sym all) (typed e (last_typed o e value)))
+
+within : (f : resolved.Function) → spec.has_plain_signature f ≡ true → length f.params ≤ length f.variables
+unfolding spec.has_plain_signature
+within f h = leb-true _ _ (and_parts _ _ (and_parts _ _ h).1).1
+
+-- a function that is found: its name is one, the same, and it is typed
+pub record IsFound (earlier : List sums.Function) (f : resolved.Function) (g : sums.Function) : Type 0 where
+  pub named : is_name f.name ≡ true
+  pub same : g.name ≡ f.name
+  pub typed : IsTypedFunction earlier g
+
+pub function_found : (earlier : List sums.Function) (f : resolved.Function) (g : sums.Function) → spec.function earlier f ≡ Some g → IsFound earlier f g
+unfolding spec.function
+function_found earlier f g h =
+    let one = found_where _ _ g h in
+    let tests = and_parts _ _ one.0 in
+    let (b, is, h2) = found_after _ _ g one.1 in
+    let made : spec.with_body f b ≡ g = same_Some _ g h2 in
+    let count : length (spec.variable_names f.variables) ≡ length f.variables = length-map f.variables _ in
+    record {
+      named = tests.0;
+      same = sym (ap (λ (x : sums.Function). x.name) made);
+      typed = subst (IsTypedFunction earlier) made (record {
+        within = subst (λ n. length f.params ≤ n) (sym count) (within f tests.1);
+        body = subst (λ n. IsTypedBlock earlier n (length f.params) b) (sym count) (body_typed earlier (length f.variables) (length f.params) f.body b is);
+      });
+    }
+
+functions_typed : (before : List sums.Function) (fs : List resolved.Function) (all : List sums.Function) → spec.functions before fs ≡ Some all →
+    (rest : List sums.Function) × (all ≡ before ++ rest) × AreTyped before rest
+functions_typed before [] all h = ([], sym (same_Some before all h) ∙ sym (append_nil before), tt)
+functions_typed before (f ∷ fs) all h =
+    let (g, is, h2) = found_after _ _ all h in
+    let (rest, e, typed) = functions_typed (before ++ g ∷ []) fs all h2 in
+    (g ∷ rest, behind_more before rest all g e, ((function_found before f g is).typed, typed))
+
+pub sums_functions : (x : Resolved) (q : Program) → spec.sums_of x ≡ Some q → spec.functions [] x.functions ≡ Some q.functions
+unfolding spec.sums_of
+sums_functions x q h =
+    let one = found_where _ _ q h in
+    let (fs, is, h2) = found_after _ _ q one.1 in
+    is ∙ ap (λ (y : Program). Some y.functions) (same_Some _ q h2)
+
+pub sums_typed : (x : Resolved) (q : Program) → spec.sums_of x ≡ Some q → IsTyped q
+sums_typed x q h =
+    let (rest, e, typed) = functions_typed [] x.functions q.functions (sums_functions x q h) in
+    subst (AreTyped []) (sym e) typed
