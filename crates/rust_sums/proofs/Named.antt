@@ -1,5 +1,6 @@
 -- The names of the functions that are found.
 use Rattle.std.proofs.Common.{◌≡◌, refl, sym, subst, ap, ◌∙◌, ℕ, List, [], ◌∷◌, ◌++◌, map, Option, Some, Result, Ok, Err, append_assoc}
+use Rattle.std.proofs.lemmas.List.{append-nil}
 use Rattle.std.proofs.lemmas.Option.{same_Some}
 use Rattle.std.specs.Prelude.{IfOk}
 use Rattle.rust_ast.specs.declared.resolution.Function as resolved
@@ -24,7 +25,7 @@ resolved_names fs = map (λ (f : resolved.Function). f.name) fs
 
 functions_named : (before : List sums.Function) (fs : List resolved.Function) (all : List sums.Function) → spec.functions before fs ≡ Some all →
     (rest : List sums.Function) × (all ≡ before ++ rest) × (names rest ≡ resolved_names fs) × Each IsName (names rest)
-functions_named before [] all h = ([], sym (same_Some before all h) ∙ sym (append_nil before), refl, tt)
+functions_named before [] all h = ([], sym (same_Some before all h) ∙ sym (append-nil before), refl, tt)
 functions_named before (f ∷ fs) all h =
     let (g, is, h2) = found_after _ _ all h in
     let found = function_found before f g is in

@@ -1,5 +1,7 @@
 -- A program of sums that is found is typed.
 use Rattle.std.proofs.Common.{◌≡◌, refl, sym, subst, ap, ◌∙◌, ℕ, ◌+◌, ◌<◌, ◌≤◌, Bool, true, false, List, [], ◌∷◌, ◌++◌, length, map, Option, Some, None, arith, append_assoc, eqb-true, leb-true}
+use Rattle.std.proofs.lemmas.Bool.{ltb-true}
+use Rattle.std.proofs.lemmas.List.{append-nil, length-map}
 use Rattle.std.proofs.lemmas.Bool.{and_parts}
 use Rattle.std.proofs.lemmas.Option.{same_Some}
 use Rattle.std.specs.Prelude.{◌&&◌, ◌==◌, nat_lt, nat_le, slice_get, pos}
@@ -30,7 +32,7 @@ behind_more before rest all x e = e ∙ append_assoc before (x ∷ []) rest
 
 small : (n : ℕ) → in_range U32 (pos n) ≡ true → n < 2 ^ 32
 unfolding limit
-small n h = let e = leb-true (n + 1) (2 ^ 32) h in omega arith
+small n h = ltb-true n (2 ^ 32) h
 
 literal_typed : (earlier : List sums.Function) (count : ℕ) (s : Span) (expected negative : Bool) (n : ℕ) (x : p.Suffix) (e : t.Expr) →
     spec.literal s expected negative n x ≡ Some e → IsTypedExpr earlier count e
@@ -49,7 +51,7 @@ module _ (earlier : List sums.Function) (count : ℕ) where
     expr_typed expected (r.number s negative n x) e h = literal_typed earlier count s expected negative n x e h
     expr_typed expected (r.variable s k) e h =
         let one = found_where (nat_lt k count) _ e h in
-        let lt : k < count = leb-true _ _ one.0 in
+        let lt : k < count = ltb-true k count one.0 in
         subst (IsTypedExpr earlier count) (same_Some _ e one.1) lt
     expr_typed expected (r.binary s op a b) e h =
         let one = found_where _ _ e h in
@@ -90,7 +92,7 @@ module _ (earlier : List sums.Function) (count : ℕ) where
 
     exprs_typed : (before : List t.Expr) (args : r.Exprs) (all : List t.Expr) → spec.exprs earlier count before args ≡ Some all →
         (rest : List t.Expr) × (all ≡ before ++ rest) × AreTypedExprs earlier count (t.exprs rest)
-    exprs_typed before r.no_exprs all h = ([], sym (same_Some before all h) ∙ sym (append_nil before), tt)
+    exprs_typed before r.no_exprs all h = ([], sym (same_Some before all h) ∙ sym (append-nil before), tt)
     exprs_typed before (r.more_exprs a args) all h =
         let (x, is, h2) = found_after _ _ all h in
         let (rest, e, typed) = exprs_typed (before ++ x ∷ []) args all h2 in
@@ -116,7 +118,7 @@ module _ (earlier : List sums.Function) (total : ℕ) where
       × ((e : t.Expr) → IsTypedExpr earlier total e → IsTypedBody earlier total count (t.stmts rest) (t.some_maybeexpr e))
   stmts_typed count before r.no_stmts all h =
       let one = found_where _ _ all h in
-      ([], sym (same_Some before all one.1) ∙ sym (append_nil before), λ e typed. (eqb-true count total one.0, typed))
+      ([], sym (same_Some before all one.1) ∙ sym (append-nil before), λ e typed. (eqb-true count total one.0, typed))
   stmts_typed count before (r.more_stmts x ss) all h =
       let (y, is, h2) = found_after _ _ all h in
       let (s, v, same, typed_value) = stmt_typed count x y is in
@@ -165,7 +167,7 @@ function_found earlier f g h =
 
 functions_typed : (before : List sums.Function) (fs : List resolved.Function) (all : List sums.Function) → spec.functions before fs ≡ Some all →
     (rest : List sums.Function) × (all ≡ before ++ rest) × AreTyped before rest
-functions_typed before [] all h = ([], sym (same_Some before all h) ∙ sym (append_nil before), tt)
+functions_typed before [] all h = ([], sym (same_Some before all h) ∙ sym (append-nil before), tt)
 functions_typed before (f ∷ fs) all h =
     let (g, is, h2) = found_after _ _ all h in
     let (rest, e, typed) = functions_typed (before ++ g ∷ []) fs all h2 in
