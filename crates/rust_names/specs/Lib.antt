@@ -9,3 +9,4 @@ pub mod PatternUses
 pub mod Uses
 pub mod Walks
 pub mod Resolution
+pub mod Naming

@@ -2,3 +2,4 @@ pub mod Naming
 pub mod Steps
 pub mod Typed
 pub mod Named
+pub mod Sizes

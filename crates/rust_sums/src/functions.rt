@@ -1,8 +1,9 @@
 //! Functions and the whole program.
 
 ghost use Rattle.std.specs.Prelude.{◌≡◌, ◌<◌, ◌^◌, [], length, map, IfOk};
-ghost use Rattle.rust_ast.specs.declared.resolution.Function.{Function};
+ghost use Rattle.rust_ast.specs.declared.resolution.Function as whole;
 ghost use Rattle.source_meaning.specs.Typing.{IsTyped};
+ghost use Rattle.sums_ast.specs.declared.function.Function as sums;
 ghost use Rattle.text_meaning.specs.Lists.{Each};
 ghost use Rattle.text_meaning.specs.Names.{IsName};
 ghost use Rattle.rust_sums.specs.Gets.{Gets};
@@ -79,7 +80,7 @@ fn functions(
     alloc: Global,
     all: &[resolution::Function],
 ) -> Result<List<Function>, SumsFault>
-    requires { Each (λ (f : Function). length f.variables < 2 ^ 32) all.now }
+    requires { Each (λ (f : whole.Function). length f.variables < 2 ^ 32) all.now }
     ensures { Gets (spec.functions [] all.now) result }
 {
     let mut done = List::new(alloc);
@@ -94,11 +95,11 @@ fn functions(
 /// want of memory.
 #[tactic(auto, unfolding(crate::specs::Sums::sums_of))]
 pub fn sums_of(alloc: Global, resolved: &Resolved) -> Result<Program, SumsFault>
-    requires few { Each (λ (f : Function). length f.variables < 2 ^ 32) resolved.now.functions }
+    requires few { Each (λ (f : whole.Function). length f.variables < 2 ^ 32) resolved.now.functions }
     ensures value { Gets (spec.sums_of resolved.now) result }
     ensures typed { IfOk result IsTyped }
-    ensures named { IfOk result (λ p. Each IsName (map (λ g. g.name) p.functions)) }
-    ensures names { IfOk result (λ p. map (λ g. g.name) p.functions ≡ map (λ (f : Function). f.name) resolved.now.functions) }
+    ensures named { IfOk result (λ p. Each IsName (map (λ (g : sums.Function). g.name) p.functions)) }
+    ensures names { IfOk result (λ p. map (λ (g : sums.Function). g.name) p.functions ≡ map (λ (f : whole.Function). f.name) resolved.now.functions) }
 {
     if !resolved.types.is_empty() {
         return Err(SumsFault::Outside);
