@@ -4,6 +4,8 @@ use Rattle.rust_ast.specs.declared.program.Program as written
 use Rattle.rust_ast.specs.declared.resolution.Resolved.{Resolved}
 use Rattle.rust_names.specs.declared.fault.NameFault.{NameFault}
 use Rattle.rust_names.specs.Resolution.{resolution}
+use Rattle.rust_reader.specs.declared.fault.ReadFault.{ReadFault}
+use Rattle.rust_reader.specs.declared.fault.ReadFault.TheVariants as F
 use Rattle.rust_sums.specs.Sums.{sums_of}
 use Rattle.source_meaning.specs.Typing.{IsTyped}
 use Rattle.sums_ast.specs.declared.function.Program.{Program}
@@ -53,3 +55,11 @@ pub record ByNameFault (program : written.Program) (source : Source) : Type 0 wh
 
 abbrev pub IsFoundWritten : written.Program → Source → Type 0
 IsFoundWritten program source = ByNames program source ⊎ ByNameFault program source
+
+-- of tokens that are no program
+abbrev pub IsUnread : ReadFault → Source → Type 0
+IsUnread fault (Read program) = ⊥
+IsUnread (F.Unsupported span) (Refused refusal) = refusal ≡ R.Unsupported span
+IsUnread (F.Limit which count) (Refused refusal) = refusal ≡ R.Limit which count
+IsUnread (F.Syntax span) (Refused refusal) = refusal ≡ R.Syntax span
+IsUnread F.Memory (Refused refusal) = ⊥

@@ -53,8 +53,8 @@ after : {A B : Type 0} (o : Result A Span) (f : A → Result B Span) (y : B) →
 after (Ok x) f y h = (x, refl, h)
 after (Err s) f y h = absurd cc
 
-same_ok : {A B : Type 0} (x y : A) → Ok {A} {B} x ≡ Ok y → x ≡ y
-same_ok x y h = cc
+same_ok : {A B : Type 0} (o : Result A B) (x y : A) → o ≡ Ok x → o ≡ Ok y → x ≡ y
+same_ok o x y h k = cc
 
 -- ---- functions that are declared, in order
 
@@ -65,13 +65,17 @@ declared (Struct s ∷ is) = declared is
 declared (Enum e ∷ is) = declared is
 declared (UseMem ∷ is) = declared is
 
+name_after : {X : Type 0} (o : Result X Span) (make : X → resolved.Function) (w : List ℕ) (g : resolved.Function) → ((x : X) → (make x).name ≡ w) →
+    and_then o (λ x. Ok (make x)) ≡ Ok g → g.name ≡ w
+name_after (Ok x) make w g is h = subst (λ (q : resolved.Function). q.name ≡ w) (same_ok _ (make x) g refl h) (is x)
+name_after (Err s) make w g is h = absurd cc
+
 function_name : (t : Tables) (f : functions.Function) (g : resolved.Function) → read_function t f ≡ Ok g → g.name ≡ f.name.name
 unfolding read_function
 function_name t f g h =
     let (xs, a, h2) = after _ _ g h in
     let (y, b, h3) = after _ _ g h2 in
-    let (z, c, h4) = after _ _ g h3 in
-    sym (ap (λ (x : resolved.Function). x.name) (same_ok _ g h4))
+    name_after _ _ f.name.name g (λ x. refl) h3
 
 names_push : (fs : List resolved.Function) (g : resolved.Function) (w : List ℕ) (ws : List (List ℕ)) → g.name ≡ w →
     function_names (fs ++ g ∷ []) ++ ws ≡ function_names fs ++ w ∷ ws
@@ -79,25 +83,25 @@ names_push [] g w ws e = ap (λ v. v ∷ ws) e
 names_push (f ∷ fs) g w ws e = ap (λ l. f.name ∷ l) (names_push fs g w ws e)
 
 items_named : (t : Tables) (is : List Item) (x y : Resolved) → read_items t is x ≡ Ok y → function_names y.functions ≡ function_names x.functions ++ declared is
-items_named t [] x y h = ap (λ (r : Resolved). function_names r.functions) (sym (same_ok x y h)) ∙ sym (append-nil (function_names x.functions))
+items_named t [] x y h = ap (λ (r : Resolved). function_names r.functions) (sym (same_ok _ x y refl h)) ∙ sym (append-nil (function_names x.functions))
 items_named t (Function f ∷ is) x y h =
     let (z, a, h2) = after _ _ y h in
     let (g, b, h3) = after _ _ z a in
-    let e = same_ok _ z h3 in
+    let e = same_ok _ (with_function x g) z refl h3 in
     items_named t is z y h2
     ∙ ap (λ (r : Resolved). function_names r.functions ++ declared is) (sym e)
     ∙ names_push x.functions g f.name.name (declared is) (function_name t f g b)
 items_named t (Struct s ∷ is) x y h =
     let (z, a, h2) = after _ _ y h in
     let (g, b, h3) = after _ _ z a in
-    items_named t is z y h2 ∙ ap (λ (r : Resolved). function_names r.functions ++ declared is) (sym (same_ok _ z h3))
+    items_named t is z y h2 ∙ ap (λ (r : Resolved). function_names r.functions ++ declared is) (sym (same_ok _ (with_type x g) z refl h3))
 items_named t (Enum s ∷ is) x y h =
     let (z, a, h2) = after _ _ y h in
     let (g, b, h3) = after _ _ z a in
-    items_named t is z y h2 ∙ ap (λ (r : Resolved). function_names r.functions ++ declared is) (sym (same_ok _ z h3))
+    items_named t is z y h2 ∙ ap (λ (r : Resolved). function_names r.functions ++ declared is) (sym (same_ok _ (with_type x g) z refl h3))
 items_named t (UseMem ∷ is) x y h =
     let (z, a, h2) = after _ _ y h in
-    items_named t is z y h2 ∙ ap (λ (r : Resolved). function_names r.functions ++ declared is) (sym (same_ok _ z a))
+    items_named t is z y h2 ∙ ap (λ (r : Resolved). function_names r.functions ++ declared is) (sym (same_ok _ x z refl a))
 
 -- ---- their names differ
 
@@ -184,13 +188,13 @@ pub record IsNamed (p : Program) (x : Resolved) : Type 0 where
   pub once : twice p ≡ None
   pub few : has_many x.functions ≡ false
 
-few_of : (y x : Resolved) (b : Bool) → has_many y.functions ≡ b → (if b then Err _ else Ok y) ≡ Ok x → (y ≡ x) × (has_many x.functions ≡ false)
-few_of y x true e h = absurd cc
-few_of y x false e h = let same : y ≡ x = cc in (same, subst (λ (r : Resolved). has_many r.functions ≡ false) same e)
+few_of : (f : NameFault) (y x : Resolved) (b : Bool) → has_many y.functions ≡ b → (if b then Err f else Ok y) ≡ Ok x → (y ≡ x) × (has_many x.functions ≡ false)
+few_of f y x true e h = absurd cc
+few_of f y x false e h = let same : y ≡ x = cc in (same, subst (λ (r : Resolved). has_many r.functions ≡ false) same e)
 
 within_of : (o : Result Resolved Span) (x : Resolved) → variables_within o ≡ Ok x → (o ≡ Ok x) × (has_many x.functions ≡ false)
 within_of (Err s) x h = absurd cc
-within_of (Ok y) x h = let (same, few) = few_of y x _ refl h in (ap Ok same, few)
+within_of (Ok y) x h = let (same, few) = few_of _ y x _ refl h in (ap Ok same, few)
 
 once_of : (o : Pair) (r : Result Resolved NameFault) (x : Resolved) → unless_twice o r ≡ Ok x → (o ≡ None) × (r ≡ Ok x)
 once_of None r x h = (refl, h)

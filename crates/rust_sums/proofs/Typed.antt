@@ -1,5 +1,5 @@
 -- A program of sums that is found is typed.
-use Rattle.std.proofs.Common.{◌≡◌, refl, sym, subst, ap, ◌∙◌, ℕ, ◌+◌, ◌<◌, ◌≤◌, Bool, true, false, List, [], ◌∷◌, ◌++◌, length, map, Option, Some, None, arith, append_assoc, eqb-true, leb-true}
+use Rattle.std.proofs.Common.{◌≡◌, refl, sym, subst, ap, ◌∙◌, ℕ, ◌+◌, ◌<◌, ◌≤◌, ◌^◌, Bool, true, false, List, [], ◌∷◌, ◌++◌, length, map, Option, Some, None, arith, append_assoc, eqb-true, leb-true}
 use Rattle.std.proofs.lemmas.Bool.{ltb-true}
 use Rattle.std.proofs.lemmas.List.{append-nil, length-map}
 use Rattle.std.proofs.lemmas.Bool.{and_parts}
@@ -8,6 +8,7 @@ use Rattle.std.specs.Prelude.{◌&&◌, ◌==◌, nat_lt, nat_le, slice_get, pos
 use Rattle.aen_base.specs.Arithmetic.{number as number_of}
 use Rattle.aen_base.specs.Numbers.{limit, in_range}
 use Rattle.aen_base.specs.declared.int_ty.IntTy.TheVariants.{U32}
+use Rattle.aen_base.specs.declared.operators.BinOp.TheVariants.{Add}
 use Rattle.aen_base.specs.declared.span.Span.{Span}
 use Rattle.rust_ast.specs.Patterns as p
 use Rattle.rust_ast.specs.Resolved as r
@@ -39,7 +40,8 @@ literal_typed : (earlier : List sums.Function) (count : ℕ) (s : Span) (expecte
 literal_typed earlier count s expected negative n x e h =
     let one = found_where _ _ e h in
     let two = found_where (in_range U32 (pos n)) _ e one.1 in
-    subst (IsTypedExpr earlier count) (same_Some _ e two.1) (record { mag = n; small = small n two.0; same = refl })
+    let is : IsU32 (number_of U32 (pos n)) = record { mag = n; small = small n two.0; same = refl } in
+    subst (IsTypedExpr earlier count) (same_Some (t.number s (number_of U32 (pos n))) e two.1) is
 
 callee_is : (earlier : List sums.Function) (f n : ℕ) (o : Option sums.Function) → slice_get earlier f ≡ o → spec.takes n o ≡ true → IsCallee earlier f n
 callee_is earlier f n None is h = absurd cc
@@ -52,21 +54,23 @@ module _ (earlier : List sums.Function) (count : ℕ) where
     expr_typed expected (r.variable s k) e h =
         let one = found_where (nat_lt k count) _ e h in
         let lt : k < count = ltb-true k count one.0 in
-        subst (IsTypedExpr earlier count) (same_Some _ e one.1) lt
+        subst (IsTypedExpr earlier count) (same_Some (t.variable s k) e one.1) lt
     expr_typed expected (r.binary s op a b) e h =
         let one = found_where _ _ e h in
         let (x, left, h2) = found_after _ _ e one.1 in
         let (y, right, h3) = found_after _ _ e h2 in
-        subst (IsTypedExpr earlier count) (same_Some _ e h3) (refl, expr_typed _ a x left, expr_typed _ b y right)
+        let typed : IsTypedExpr earlier count (t.binary s Add x y) = (refl, expr_typed _ a x left, expr_typed _ b y right) in
+        subst (IsTypedExpr earlier count) (same_Some (t.binary s Add x y) e h3) typed
     expr_typed expected (r.call s c ts args) e h =
         let (f, is, h2) = found_after _ _ e h in
         let (xs, parts, h3) = found_after _ _ e h2 in
         let four = found_where _ _ e h3 in
         let (rest, all, typed) = exprs_typed [] args xs parts in
         let same : xs ≡ t.exprs_list (t.exprs xs) = sym (t.exprs_back xs) in
-        subst (IsTypedExpr earlier count) (same_Some _ e four.1)
-        (subst (λ (l : List t.Expr). IsCallee earlier f (length l)) same (callee_is earlier f (length xs) _ refl four.0),
-        subst (λ (l : List t.Expr). AreTypedExprs earlier count (t.exprs l)) (sym all) typed)
+        let whole : IsTypedExpr earlier count (t.call s f (t.exprs xs)) =
+            (subst (λ (l : List t.Expr). IsCallee earlier f (length l)) same (callee_is earlier f (length xs) _ refl four.0),
+            subst (λ (l : List t.Expr). AreTypedExprs earlier count (t.exprs l)) (sym all) typed) in
+        subst (IsTypedExpr earlier count) (same_Some (t.call s f (t.exprs xs)) e four.1) whole
     expr_typed expected (r.truth s b) e h = absurd cc
     expr_typed expected (r.tuple s xs) e h = absurd cc
     expr_typed expected (r.inner b) e h = absurd cc
@@ -111,7 +115,7 @@ module _ (earlier : List sums.Function) (total : ℕ) where
   stmt_typed count (r.bind s x ty o) y h =
       let one = found_where _ _ y h in
       let (e, is, h2) = found_after _ _ y one.1 in
-      (s, e, sym (same_Some _ y h2), value_typed count ty o e is)
+      (s, e, sym (same_Some (t.bind s count e) y h2), value_typed count ty o e is)
 
   stmts_typed : (count : ℕ) (before : List t.Stmt) (ss : r.Stmts) (all : List t.Stmt) → spec.stmts earlier count total before ss ≡ Some all →
       (rest : List t.Stmt) × (all ≡ before ++ rest)
@@ -124,7 +128,9 @@ module _ (earlier : List sums.Function) (total : ℕ) where
       let (s, v, same, typed_value) = stmt_typed count x y is in
       let (rest, e, typed) = stmts_typed (count + 1) (before ++ y ∷ []) ss all h2 in
       (y ∷ rest, behind_more before rest all y e,
-      λ z typed_z. subst (λ (q : t.Stmt). IsTypedBody earlier total count (t.more_stmts q (t.stmts rest)) (t.some_maybeexpr z)) (sym same) (refl, typed_value, typed z typed_z))
+      λ z typed_z.
+      let one : IsTypedBody earlier total count (t.more_stmts (t.bind s count v) (t.stmts rest)) (t.some_maybeexpr z) = (refl, typed_value, typed z typed_z) in
+      subst (λ (q : t.Stmt). IsTypedBody earlier total count (t.more_stmts q (t.stmts rest)) (t.some_maybeexpr z)) (sym same) one)
 
   last_typed : (o : r.MaybeExpr) (e : t.Expr) → spec.last earlier total o ≡ Some e → IsTypedExpr earlier total e
   last_typed r.no_maybeexpr e h = absurd cc
@@ -135,10 +141,10 @@ module _ (earlier : List sums.Function) (total : ℕ) where
       let (ys, is, h2) = found_after _ _ b h in
       let (e, value, h3) = found_after _ _ b h2 in
       let (rest, all, typed) = stmts_typed count [] ss ys is in
-      subst (IsTypedBlock earlier total count) (same_Some _ b h3)
+      subst (IsTypedBlock earlier total count) (same_Some (t.block s (t.stmts ys) (t.some_maybeexpr e)) b h3)
       (subst (λ (l : List t.Stmt). IsTypedBody earlier total count (t.stmts l) (t.some_maybeexpr e)) (sym all) (typed e (last_typed o e value)))
 
-within : (f : resolved.Function) → spec.has_plain_signature f ≡ true → length f.params ≤ length f.variables
+pub within : (f : resolved.Function) → spec.has_plain_signature f ≡ true → length f.params ≤ length f.variables
 unfolding spec.has_plain_signature
 within f h = leb-true _ _ (and_parts _ _ (and_parts _ _ h).1).1
 
@@ -154,7 +160,7 @@ function_found earlier f g h =
     let one = found_where _ _ g h in
     let tests = and_parts _ _ one.0 in
     let (b, is, h2) = found_after _ _ g one.1 in
-    let made : spec.with_body f b ≡ g = same_Some _ g h2 in
+    let made : spec.with_body f b ≡ g = same_Some (spec.with_body f b) g h2 in
     let count : length (spec.variable_names f.variables) ≡ length f.variables = length-map f.variables _ in
     record {
       named = tests.0;
@@ -178,7 +184,7 @@ unfolding spec.sums_of
 sums_functions x q h =
     let one = found_where _ _ q h in
     let (fs, is, h2) = found_after _ _ q one.1 in
-    is ∙ ap (λ (y : Program). Some y.functions) (same_Some _ q h2)
+    is ∙ ap (λ (y : Program). Some y.functions) (same_Some (spec.as_program fs) q h2)
 
 pub sums_typed : (x : Resolved) (q : Program) → spec.sums_of x ≡ Some q → IsTyped q
 sums_typed x q h =

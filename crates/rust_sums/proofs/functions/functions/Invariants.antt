@@ -1,4 +1,4 @@
-use Rattle.std.proofs.Common.{◌≡◌, ◌<◌, [], drop, length}
+use Rattle.std.proofs.Common.{◌≡◌, ◌<◌, ◌^◌, [], drop, length}
 use Rattle.rust_ast.specs.declared.resolution.Function.{Function}
 use Rattle.text_meaning.specs.Lists.{Each}
 use Rattle.rust_sums.specs.Sums as spec
