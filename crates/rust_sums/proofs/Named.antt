@@ -27,7 +27,7 @@ functions_named : (before : List sums.Function) (fs : List resolved.Function) (a
     (rest : List sums.Function) × (all ≡ before ++ rest) × (names rest ≡ resolved_names fs) × Each IsName (names rest)
 functions_named before [] all h = ([], sym (same_Some before all h) ∙ sym (append-nil before), refl, tt)
 functions_named before (f ∷ fs) all h =
-    let (g, is, h2) = found_after _ _ all h in
+    let (g, is, h2) = found_after (spec.function before f) (λ g. spec.functions (before ++ g ∷ []) fs) all h in
     let found = function_found before f g is in
     let (rest, e, same, are) = functions_named (before ++ g ∷ []) fs all h2 in
     (g ∷ rest, e ∙ append_assoc before (g ∷ []) rest, (λ i. found.same i ∷ same i), (subst IsName (sym found.same) (name_is f.name found.named), are))
