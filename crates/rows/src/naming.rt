@@ -9,8 +9,7 @@ const TRANSLATE: &[&str] = &["translate", "a.rs"];
 const LATER: &[u8] = b"refused 30 later\n";
 
 /// `é` as one character where it is declared, and as two where it is called.
-const NORMAL_FORM: &str =
-    "fn \u{e9}(x: u32) -> u32 { x + 1 } fn g(x: u32) -> u32 { e\u{301}(x) }";
+const NORMAL_FORM: &str = "fn \u{e9}(x: u32) -> u32 { x + 1 } fn g(x: u32) -> u32 { e\u{301}(x) }";
 
 const NORMAL_FORM_TEXT: &str =
     "import AenPrelude\nopen AenPrelude\n\ndef fn.«\u{e9}» (n : Nat) (v0 : U32) : Result U32 :=\n  match n with\n  | 0 => outOfFuel\n  | n + 1 => do\n    let v1 ← U32.add v0 1#U32;\n    ok v1\n\ndef fn.g (n : Nat) (v0 : U32) : Result U32 :=\n  match n with\n  | 0 => outOfFuel\n  | n + 1 => do\n    let v1 ← fn.«\u{e9}» n v0;\n    ok v1\n";
@@ -86,7 +85,14 @@ fn worked_names(rt: HostRuntime) -> Result<(), NoMem> {
         assert!(rt; given);
     }
     let text = NORMAL_FORM_TEXT.as_bytes();
-    let same = answers(rt.alloc(), &GOOD, NORMAL_FORM.as_bytes(), TRANSLATE, 0, text)?;
+    let same = answers(
+        rt.alloc(),
+        &GOOD,
+        NORMAL_FORM.as_bytes(),
+        TRANSLATE,
+        0,
+        text,
+    )?;
     assert!(rt; same);
     Ok(())
 }

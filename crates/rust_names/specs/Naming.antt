@@ -148,11 +148,14 @@ has_last (y ∷ xs) x w k e = inr (has_last xs x w k e)
 like_by : (w : List ℕ) (x : Entry) (xs : List Entry) (b : Bool) → bytes_eq x.name w && must_differ kind.Value x.kind ≡ b → (if b then Some x.span else first_like kind.Value w xs) ≡ None →
     ((x.kind ≡ kind.Value) × (x.name ≡ w) → ⊥) × (first_like kind.Value w xs ≡ None)
 like_by w x xs true e h = absurd cc
-like_by w x xs false e h = (λ same.
-    let name : bytes_eq x.name w ≡ true = (bytes_eq-Decides x.name w).1 same.1 in
-    let kinds : must_differ kind.Value x.kind ≡ true = ap (must_differ kind.Value) same.0 in
-    let both : true ≡ false = (λ i. (sym name i) && (sym kinds i)) ∙ e in
-    absurd cc, h)
+like_by w x xs false e h = (
+  λ same.
+      let name : bytes_eq x.name w ≡ true = (bytes_eq-Decides x.name w).1 same.1 in
+      let kinds : must_differ kind.Value x.kind ≡ true = ap (must_differ kind.Value) same.0 in
+      let both : true ≡ false = (λ i. (sym name i) && (sym kinds i)) ∙ e in
+      absurd cc,
+  h,
+)
 
 no_like : (w : List ℕ) (xs : List Entry) → first_like kind.Value w xs ≡ None → HasFunction xs w → ⊥
 no_like w [] h has = has
@@ -192,7 +195,7 @@ all_apart vs seen (Function f ∷ is) h =
     let both = neither (twice_in_item vs seen (Function f)) (twice_in_items vs (with_entries seen (Function f)) is) h in
     let own = entry kind.Value f.name in
     let has : HasFunction (with_entries seen (Function f)) f.name.name =
-        has_more (seen ++ own ∷ []) (entries kind.Parameter (item_parameters (Function f))) f.name.name (has_last seen own f.name.name refl refl) in
+    has_more (seen ++ own ∷ []) (entries kind.Parameter (item_parameters (Function f))) f.name.name (has_last seen own f.name.name refl refl) in
     (apart vs (with_entries seen (Function f)) is f.name.name both.1 has, all_apart vs (with_entries seen (Function f)) is both.1)
 all_apart vs seen (Struct s ∷ is) h = all_apart vs (with_entries seen (Struct s)) is (neither (twice_in_item vs seen (Struct s)) (twice_in_items vs (with_entries seen (Struct s)) is) h).1
 all_apart vs seen (Enum s ∷ is) h = all_apart vs (with_entries seen (Enum s)) is (neither (twice_in_item vs seen (Enum s)) (twice_in_items vs (with_entries seen (Enum s)) is) h).1

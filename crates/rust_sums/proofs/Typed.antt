@@ -15,11 +15,9 @@ use Rattle.rust_ast.specs.Patterns as p
 use Rattle.rust_ast.specs.Resolved as r
 use Rattle.rust_ast.specs.Written as w
 use Rattle.rust_ast.specs.declared.resolution.Function as resolved
-use Rattle.rust_ast.specs.declared.resolution.Resolved.{Resolved}
 use Rattle.rust_ast.specs.declared.resolution.Variable.{Variable}
 use Rattle.sums_ast.specs.Tree as t
 use Rattle.sums_ast.specs.declared.function.Function as sums
-use Rattle.sums_ast.specs.declared.function.Program.{Program}
 use Rattle.source_meaning.specs.Typing.{IsU32, IsCallee, IsTypedExpr, AreTypedExprs, IsTypedBody, IsTypedBlock, IsTypedFunction, AreTyped, IsTyped}
 use Rattle.rust_sums.specs.Gets.{and_then, where_}
 use Rattle.rust_sums.specs.Names.{is_name}
@@ -76,9 +74,10 @@ module _ (earlier : List sums.Function) (count : ℕ) where
         let four = found_where (spec.takes (length xs) (slice_get earlier f)) (Some (t.call s f (t.exprs xs))) e h3 in
         let (rest, all, typed) = exprs_typed [] args xs parts in
         let same : xs ≡ t.exprs_list (t.exprs xs) = sym (t.exprs_back xs) in
-        let whole : IsTypedExpr earlier count (t.call s f (t.exprs xs)) =
-            (subst (λ (l : List t.Expr). IsCallee earlier f (length l)) same (callee_is earlier f (length xs) (slice_get earlier f) refl four.0),
-            subst (λ (l : List t.Expr). AreTypedExprs earlier count (t.exprs l)) (sym all) typed) in
+        let whole : IsTypedExpr earlier count (t.call s f (t.exprs xs)) = (
+          subst (λ (l : List t.Expr). IsCallee earlier f (length l)) same (callee_is earlier f (length xs) (slice_get earlier f) refl four.0),
+          subst (λ (l : List t.Expr). AreTypedExprs earlier count (t.exprs l)) (sym all) typed,
+        ) in
         subst (IsTypedExpr earlier count) (same_Some (t.call s f (t.exprs xs)) e four.1) whole
     expr_typed expected (r.truth s b) e h = absurd cc
     expr_typed expected (r.tuple s xs) e h = absurd cc
@@ -136,11 +135,13 @@ module _ (earlier : List sums.Function) (total : ℕ) where
   stmts_typed count before (r.more_stmts x ss) all h =
       let (y, is, h2) = found_after (spec.stmt earlier count total x) (λ y. spec.stmts earlier (count + 1) total (before ++ y ∷ []) ss) all h in
       let (s, v, same, typed_value) = stmt_typed count x y is in
-      let (rest, e, typed) = stmts_typed (count + 1) (before ++ y ∷ []) ss all h2 in
-      (y ∷ rest, behind_more before rest all y e,
-      λ z typed_z.
-      let one : IsTypedBody earlier total count (t.more_stmts (t.bind s count v) (t.stmts rest)) (t.some_maybeexpr z) = (refl, typed_value, typed z typed_z) in
-      subst (λ (q : t.Stmt). IsTypedBody earlier total count (t.more_stmts q (t.stmts rest)) (t.some_maybeexpr z)) (sym same) one)
+      let (rest, e, typed) = stmts_typed (count + 1) (before ++ y ∷ []) ss all h2 in (
+        y ∷ rest,
+        behind_more before rest all y e,
+        λ z typed_z.
+            let one : IsTypedBody earlier total count (t.more_stmts (t.bind s count v) (t.stmts rest)) (t.some_maybeexpr z) = (refl, typed_value, typed z typed_z) in
+            subst (λ (q : t.Stmt). IsTypedBody earlier total count (t.more_stmts q (t.stmts rest)) (t.some_maybeexpr z)) (sym same) one,
+      )
 
   last_typed : (o : r.MaybeExpr) (e : t.Expr) → spec.last earlier total o ≡ Some e → IsTypedExpr earlier total e
   last_typed r.no_maybeexpr e h = absurd cc
@@ -196,15 +197,7 @@ functions_typed before (f ∷ fs) all h =
     let (rest, e, typed) = functions_typed (before ++ g ∷ []) fs all h2 in
     (g ∷ rest, behind_more before rest all g e, ((function_found before f g is).typed, typed))
 
-pub sums_functions : (x : Resolved) (q : Program) → spec.sums_of x ≡ Some q → spec.functions [] x.functions ≡ Some q.functions
-unfolding spec.sums_of
-sums_functions x q h =
-    let make = λ (fs : List sums.Function). Some (spec.as_program fs) in
-    let one = found_where (spec.is_nil x.types) (and_then (spec.functions [] x.functions) make) q h in
-    let (fs, is, h2) = found_after (spec.functions [] x.functions) make q one.1 in
-    is ∙ ap (λ (y : Program). Some y.functions) (same_Some (spec.as_program fs) q h2)
-
-pub sums_typed : (x : Resolved) (q : Program) → spec.sums_of x ≡ Some q → IsTyped q
-sums_typed x q h =
-    let (rest, e, typed) = functions_typed [] x.functions q.functions (sums_functions x q h) in
+pub functions_are_typed : (fs : List resolved.Function) (all : List sums.Function) → spec.functions [] fs ≡ Some all → IsTyped (spec.as_program all)
+functions_are_typed fs all h =
+    let (rest, e, typed) = functions_typed [] fs all h in
     subst (AreTyped []) (sym e) typed

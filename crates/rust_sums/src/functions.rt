@@ -14,8 +14,7 @@ use crate::names::is_name;
 use crate::statements::body;
 use crate::types::{are_u32, gives_u32};
 use aen_base::{List, Name, NoMem};
-use rust_ast::resolution;
-use rust_ast::{Resolved, Variable};
+use rust_ast::{Resolved, Variable, resolution};
 use std::alloc::Global;
 use sums_ast::{Block, Function, Program};
 
@@ -43,7 +42,12 @@ fn variable_names(alloc: Global, variables: &[Variable]) -> Result<List<Name>, N
 }
 
 /// A function with its body as one of sums. The only error is want of memory.
-fn with_body(alloc: Global, f: &resolution::Function, parameters: u32, body: Block) -> Result<Function, NoMem>
+fn with_body(
+    alloc: Global,
+    f: &resolution::Function,
+    parameters: u32,
+    body: Block,
+) -> Result<Function, NoMem>
     requires { length f.now.params ≡ parameters }
     ensures { IfOk result (λ g. g ≡ spec.with_body f.now body) }
 {
@@ -76,10 +80,7 @@ fn function(
 }
 
 /// These functions as those of sums. `Outside` exactly where one is none.
-fn functions(
-    alloc: Global,
-    all: &[resolution::Function],
-) -> Result<List<Function>, SumsFault>
+fn functions(alloc: Global, all: &[resolution::Function]) -> Result<List<Function>, SumsFault>
     requires { Each (λ (f : whole.Function). length f.variables < 2 ^ 32) all.now }
     ensures { Gets (spec.functions [] all.now) result }
 {
