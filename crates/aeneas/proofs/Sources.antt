@@ -12,7 +12,7 @@ use Rattle.rust_names.specs.Resolution.{resolution}
 use Rattle.rust_names.specs.declared.fault.NameFault.{NameFault}
 use Rattle.rust_names.specs.declared.fault.NameFault.TheVariants as N
 use Rattle.rust_reader.specs.Answers.{IsReading}
-use Rattle.rust_reader.specs.Reading as reading
+use Rattle.source_ways.specs.Reading as reading
 use Rattle.rust_reader.specs.declared.fault.ReadFault.{ReadFault}
 use Rattle.rust_reader.specs.declared.fault.ReadFault.TheVariants as F
 use Rattle.rust_sums.specs.Sums.{sums_of}

@@ -4,7 +4,7 @@ use Rattle.aen_base.specs.declared.span.Span.{Span}
 use Rattle.rust_ast.specs.declared.program.Program.{Program}
 use Rattle.rust_lex.specs.Lexing.{AreTokens}
 use Rattle.rust_lex.specs.declared.token.Token.{Token}
-use Rattle.rust_reader.specs.Reading.{Reads}
+use Rattle.source_ways.specs.Reading.{Reads}
 use Rattle.source_syntax.specs.declared.refusal.Refusal as syntax
 use Rattle.source_syntax.specs.declared.refusal.Refusal.TheVariants as S
 use Rattle.source_syntax.specs.Refusals.{IsKept, IsCause}
