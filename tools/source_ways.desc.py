@@ -4,7 +4,7 @@ production's symbols, by its name or as `names. value`. `w` is the whole, `_` wh
 is left out, and each name stands for a part's value, or for a lexeme."""
 
 GRAMMAR = "source_grammar.desc.py"
-OUT = "crates/rust_reader/specs/Makes.antt"
+OUT = "crates/source_ways/specs/Makes.antt"
 
 # The modules of specs/ that ways come from; where two have the same name, the module's short name stands before it.
 MODULES = {"Types": "types", "Patterns": "patterns", "Paths": "paths", "Blocks": "blocks", "Operators": "operators",

@@ -24,12 +24,12 @@ use Rattle.source_grammar.specs.Productions.{item, productions}
 use Rattle.rust_ast.specs.Source as s
 use Rattle.rust_ast.specs.SourceTypes as t
 use Rattle.rust_ast.specs.SourcePatterns as p
-use Rattle.rust_reader.specs.declared.paths.InMem.TheVariants as in_mem
-use Rattle.rust_reader.specs.declared.constructors.Given.TheVariants as given
-use Rattle.rust_reader.specs.declared.constructors.AfterName.TheVariants as name
-use Rattle.rust_reader.specs.declared.constructors.AfterMem.TheVariants as after_mem
-use Rattle.rust_reader.specs.Carriers.{Value, Listing, Makes}
-use Rattle.rust_reader.specs.Says.{ident, lifetime}
+use Rattle.source_ways.specs.declared.paths.InMem.TheVariants as in_mem
+use Rattle.source_ways.specs.declared.constructors.Given.TheVariants as given
+use Rattle.source_ways.specs.declared.constructors.AfterName.TheVariants as name
+use Rattle.source_ways.specs.declared.constructors.AfterMem.TheVariants as after_mem
+use Rattle.source_ways.specs.Carriers.{Value, Listing, Makes}
+use Rattle.source_ways.specs.Says.{ident, lifetime}
 '''
 
 LISTED = '''
@@ -124,7 +124,7 @@ def main():
     values = {}
     exec(open(os.path.join(HERE, "source_ways.desc.py"), encoding="utf-8").read(), values)
     grammar = Description(os.path.join(HERE, values["GRAMMAR"]))
-    uses = "".join(f"use Rattle.rust_reader.specs.{m} as {a}\n" for m, a in values["MODULES"].items())
+    uses = "".join(f"use Rattle.source_ways.specs.{m} as {a}\n" for m, a in values["MODULES"].items())
     text = HEAD + uses + LISTED + listed(grammar) + makes(grammar, read_ways(values["WAYS"]))
     path = os.path.join(HERE, "..", values["OUT"])
     open(path, "w", encoding="utf-8").write(text)

@@ -1,12 +1,11 @@
-//! How a source's tokens are read as a program (docs/LANGUAGE.md, "Grammar").
+//! From the tokens of a source to its program (docs/LANGUAGE.md, "Grammar").
 #![tactic(auto)]
 
-pub mod clauses;
-pub mod constructors;
-pub mod front_list;
-pub mod generics;
-pub mod operations;
-pub mod paths;
-mod says;
-pub mod spanned;
-mod types;
+mod call_name;
+mod fault;
+mod program;
+mod read_source;
+
+pub use call_name::read_call_name;
+pub use fault::ReadFault;
+pub use read_source::read;

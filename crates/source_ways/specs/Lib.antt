@@ -1,0 +1,14 @@
+pub mod Spans
+pub mod Says
+pub mod Carriers
+pub mod Types
+pub mod PathNodes
+pub mod Patterns
+pub mod Blocks
+pub mod Paths
+pub mod Operators
+pub mod Expressions
+pub mod Items
+pub mod Makes
+pub mod Reading
+pub mod Made
