@@ -19,8 +19,8 @@ returns-in-Ok c =
     IfOk-weaker c.written_program.result (IsFoundWritten program) (IsFoundIn text)
     (written_found text program w (only_written text tokens.list tokens.bad c.utf8.text lexed.tokens lexed.only program h.2)) c.written_program.ensures
 
-pub returns-in-Err : goal.returns-in-Err
-returns-in-Err c =
+pub returns : goal.returns
+returns c =
     let text = c.args.text.now in
     let tokens = c.in_ok-tokens.tokens in
     IfOk-weaker c.unread.result (IsUnread c.in-Err.fault) (IsFoundIn text)
