@@ -6,7 +6,7 @@ use Rattle.rust_names.specs.Naming.{function_names}
 use Rattle.aeneas.proofs.source.resolved_program.Goals as goal
 
 pub sums_of-requires : goal.sums_of-requires
-sums_of-requires c = few_same c.args.resolved.now.functions c.requires.few
+sums_of-requires c = record { few = few_same c.args.resolved.now.functions c.requires.few }
 
 pub returns-in-Ok : goal.returns-in-Ok
 returns-in-Ok c =
