@@ -183,13 +183,18 @@ abbrev pub by_ways : (t.Ty → List Row → Onward → Bool) → Option (List Wa
 by_ways split None rows onward = onward (open_rows rows)
 by_ways split (Some ws) rows onward = list_all (at_way split rows onward) ws
 
+-- the one or the other of two functions, of which the other isn't computed
+abbrev pub either : Bool → (t.Ty → Bool) → (t.Ty → Bool) → t.Ty → Bool
+either true f g x = f x
+either false f g x = g x
+
 -- every value of the type, down to a level, leaves rows that are covered by what follows
 abbrev pub split : List TypeDecl → ℕ → t.Ty → List Row → Onward → Bool
 split ds zero x rows onward = onward (open_rows rows)
 split ds (suc n) x rows onward =
-    (if list_all begins_open rows
-     then (λ z. is_void ds (suc n) x || onward (open_rows rows))
-     else (λ z. by_ways (split ds n) (ways ds rows (content x)) rows onward)) x
+    either (list_all begins_open rows)
+      (λ y. is_void ds (suc n) y || onward (open_rows rows))
+      (λ y. by_ways (split ds n) (ways ds rows (content y)) rows onward) x
 
 abbrev pub some_row : Onward
 some_row [] = false
