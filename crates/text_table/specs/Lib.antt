@@ -1,6 +1,6 @@
 pub mod Classes
 pub mod Productions
-pub mod Classing
+pub mod Spelled
 pub mod Lexemes
 pub mod Follow
 pub mod Shortest

@@ -10,7 +10,7 @@ ghost use Rattle.std.specs.Prelude.{◌≡◌};
 ghost use Rattle.table_reader.specs.Derivations.{rows};
 ghost use Rattle.text_table.specs.Productions as grammar;
 
-use crate::part::{Part};
+use crate::part::Part;
 use crate::terminal::Terminal;
 use table_reader::Production;
 
@@ -34,7 +34,8 @@ macro_rules! symbol {
     };
 }
 
-pub(crate) use {productions, symbol};
+pub(crate) use productions;
+pub(crate) use symbol;
 
 /// The productions of a part.
 pub(crate) fn productions_of(part: Part) -> Productions

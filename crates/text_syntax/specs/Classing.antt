@@ -9,12 +9,7 @@ use Rattle.text_tokens.specs.declared.lexeme.Lexeme.{Lexeme as Spelled}
 use Rattle.text_table.specs.declared.class.Class.{Class}
 use Rattle.text_table.specs.declared.class.Class.TheVariants as C
 use Rattle.text_table.specs.declared.lexeme.Lexeme.{Lexeme}
-use Rattle.text_table.specs.Classes.{spelling, names}
-
--- the one of these classes that is spelled so
-abbrev pub class_among : List ℕ → List Class → Option Class
-class_among w [] = None
-class_among w (c ∷ cs) = if bytes_eq w (spelling c) then Some c else class_among w cs
+use Rattle.text_table.specs.Spelled.{class_named}
 
 -- a word with a number directly after it
 abbrev pub is_numbered : List ℕ → List ℕ → Bool
@@ -35,7 +30,7 @@ own_or_other None w = class_of_other w
 own_or_other (Some c) w = c
 
 abbrev pub class_of_word : List ℕ → Class
-class_of_word w = own_or_other (class_among w names) w
+class_of_word w = own_or_other (class_named w) w
 
 abbrev pub class_of_number : List ℕ → Class
 class_of_number s = if bytes_eq s (codes "0") then C.Zero else (if bytes_eq s (codes "1") then C.One else C.Digits)

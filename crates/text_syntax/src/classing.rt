@@ -1,14 +1,12 @@
 //! The class of each lexeme of a text.
 
 ghost use Rattle.std.specs.Prelude.{◌≡◌, map, IfOk};
-ghost use Rattle.text_table.specs.Classing as spec;
+ghost use Rattle.text_syntax.specs.Classing as spec;
 
-use crate::class::Class;
-use crate::lexeme::Lexeme;
-use crate::spellings::{NAMES, spelling};
 use aen_base::{List, Name, NoMem};
 use std::alloc::Global;
 use text_meaning::{Mark, are_digits, is_bare, is_variable};
+use text_table::{Class, Lexeme, class_named};
 use text_tokens::LexemeKind;
 
 /// The class of a lexeme.
@@ -27,22 +25,10 @@ pub fn class_of(kind: &LexemeKind) -> Class
 fn class_of_word(word: &str) -> Class
     ensures { result ≡ spec.class_of_word word.now }
 {
-    match class_among(word, NAMES) {
+    match class_named(word) {
         Some(class) => class,
         None => class_of_other(word),
     }
-}
-
-/// The one of these classes that is spelled so.
-fn class_among(word: &str, classes: &[Class]) -> Option<Class>
-    ensures { result ≡ spec.class_among word.now classes.now }
-{
-    for class in classes {
-        if word == spelling(*class) {
-            return Some(*class);
-        }
-    }
-    None
 }
 
 /// The class of a word that has no class of its own.
@@ -145,10 +131,7 @@ fn lexeme_of(alloc: Global, lexeme: text_tokens::Lexeme) -> Result<Lexeme, NoMem
 }
 
 /// The lexemes of a text with their classes. The only error is want of memory.
-pub fn lexemes_of(
-    alloc: Global,
-    lexemes: List<text_tokens::Lexeme>,
-) -> Result<List<Lexeme>, NoMem>
+pub fn lexemes_of(alloc: Global, lexemes: List<text_tokens::Lexeme>) -> Result<List<Lexeme>, NoMem>
     ensures { IfOk result (λ it. it ≡ map spec.lexeme_of lexemes) }
 {
     let mut left = lexemes;
