@@ -1,0 +1,10 @@
+pub mod Types
+pub mod TypeLeft
+pub mod TypeView
+pub mod TypeFalls
+pub mod Atoms
+pub mod AtomView
+pub mod AtomFalls
+pub mod Code
+pub mod CodeView
+pub mod CodeFalls
