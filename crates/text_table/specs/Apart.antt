@@ -4,7 +4,6 @@ use Rattle.std.specs.List.{list_any, list_all}
 use Rattle.std.proofs.Common.{ap, sym, ◌∙◌}
 use denote.Enum.Bare.{sameb, same_true}
 use Rattle.table_reader.specs.Conditions.{accepts}
-use Rattle.table_reader.specs.declared.take.Take.{Take}
 use Rattle.table_reader.specs.declared.take.Take.TheVariants as K
 use Rattle.text_table.specs.declared.class.Class.{Class}
 use Rattle.text_table.specs.declared.lexeme.Lexeme.{Lexeme}
