@@ -175,4 +175,3 @@ coded_rawatom = record { code = stored_rawatom; inj = inj_rawatom }
 
 abbrev pub coded_rawatoms : Coded RawAtoms
 coded_rawatoms = record { code = stored_rawatoms; inj = inj_rawatoms }
-

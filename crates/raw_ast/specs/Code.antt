@@ -161,4 +161,3 @@ coded_rawcode = record { code = stored_rawcode; inj = inj_rawcode }
 
 abbrev pub coded_rawarms : Coded RawArms
 coded_rawarms = record { code = stored_rawarms; inj = inj_rawarms }
-

@@ -186,4 +186,3 @@ coded_rawtype = record { code = stored_rawtype; inj = inj_rawtype }
 
 abbrev pub coded_rawtypes : Coded RawTypes
 coded_rawtypes = record { code = stored_rawtypes; inj = inj_rawtypes }
-

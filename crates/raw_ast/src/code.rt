@@ -72,7 +72,10 @@ impl Drop for RawCode {
 
 /// The code of the first of some arms, and the arms with other code in its place. It takes no
 /// memory.
-fn put_under(waiting: RawCode, arms: List<(Pattern, RawCode)>) -> (RawCode, List<(Pattern, RawCode)>)
+fn put_under(
+    waiting: RawCode,
+    arms: List<(Pattern, RawCode)>,
+) -> (RawCode, List<(Pattern, RawCode)>)
     requires { 0 < length arms }
     ensures first { codes.nodes_rawcode result.0 < codes.nodes_rawarms (codes.rawarms arms) }
     ensures all { codes.nodes_rawcode result.0 + codes.nodes_rawarms (codes.rawarms result.1) ≡ codes.nodes_rawcode waiting + codes.nodes_rawarms (codes.rawarms arms) }
@@ -114,7 +117,12 @@ impl Model for RawCode {
 
 impl RawCode {
     /// `variable` takes the computation's value in `rest`. The only error is want of memory.
-    pub fn bind(alloc: Global, variable: Spelling, comp: Computation, rest: RawCode) -> Result<RawCode, NoMem>
+    pub fn bind(
+        alloc: Global,
+        variable: Spelling,
+        comp: Computation,
+        rest: RawCode,
+    ) -> Result<RawCode, NoMem>
         ensures { IfOk result (λ c. c ≡ codes.bind variable comp rest) }
     {
         Ok(RawCode {
@@ -123,7 +131,12 @@ impl RawCode {
     }
 
     /// `variable` is the atom in `rest`. The only error is want of memory.
-    pub fn put(alloc: Global, variable: Spelling, atom: RawAtom, rest: RawCode) -> Result<RawCode, NoMem>
+    pub fn put(
+        alloc: Global,
+        variable: Spelling,
+        atom: RawAtom,
+        rest: RawCode,
+    ) -> Result<RawCode, NoMem>
         ensures { IfOk result (λ c. c ≡ codes.put variable atom rest) }
     {
         Ok(RawCode {

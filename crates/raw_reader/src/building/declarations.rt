@@ -214,11 +214,12 @@ pub(crate) fn build_variant_type(alloc: Global, index: usize, values: &mut List<
 }
 
 /// The value of `VariantEnd`, production 0.
-fn first_variant_end(_values: &mut List<Item<Lexeme, Value>>) -> Result<Value, NoMem>
+fn first_variant_end(alloc: Global, _values: &mut List<Item<Lexeme, Value>>) -> Result<Value, NoMem>
     requires { CanBuild carrier held N.VariantEnd (made N.VariantEnd) 0 (reverse _values.old) }
     ensures { IfOk result (λ it. IsBuilt carrier held N.VariantEnd (made N.VariantEnd) 0 (reverse _values.old) it (reverse _values.new)) }
 {
-    Ok(Value::AfterName(ended()))
+    let made = ended(alloc)?;
+    Ok(Value::AfterName(made))
 }
 
 /// The value of `VariantEnd`, production 1.
@@ -243,12 +244,12 @@ fn third_variant_end(values: &mut List<Item<Lexeme, Value>>) -> Result<Value, No
 }
 
 /// The value of `VariantEnd` by its production in this place.
-pub(crate) fn build_variant_end(_alloc: Global, index: usize, values: &mut List<Item<Lexeme, Value>>) -> Result<Value, NoMem>
+pub(crate) fn build_variant_end(alloc: Global, index: usize, values: &mut List<Item<Lexeme, Value>>) -> Result<Value, NoMem>
     requires { CanBuild carrier held N.VariantEnd (made N.VariantEnd) index (reverse values.old) }
     ensures { IfOk result (λ it. IsBuilt carrier held N.VariantEnd (made N.VariantEnd) index (reverse values.old) it (reverse values.new)) }
 {
     match index {
-        0 => first_variant_end(values),
+        0 => first_variant_end(alloc, values),
         1 => second_variant_end(values),
         2 => third_variant_end(values),
         _ => unreachable!(),

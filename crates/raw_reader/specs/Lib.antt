@@ -1,0 +1,4 @@
+pub mod Words
+pub mod Carriers
+pub mod Ways
+pub mod Makes
