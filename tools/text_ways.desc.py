@@ -2,6 +2,7 @@
 
 GRAMMAR = "text_grammar.desc.py"
 CRATE = "raw_reader"
+VALUES = "raw_values"
 
 # What parts are read as: of each kind the type in code, the type in definitions, and its parts.
 KINDS = """

@@ -13,7 +13,7 @@ from grammar_files import snake  # noqa: E402
 D = {}
 exec(open(os.path.join(HERE, "text_ways.desc.py"), encoding="utf-8").read(), D)
 G = Description(os.path.join(HERE, D["GRAMMAR"]))
-CRATE = D["CRATE"]
+CRATE, VALUES = D["CRATE"], D["VALUES"]
 NOTE = "Written by tools/text_ways.py."
 ORDINALS = ["first", "second", "third", "fourth", "fifth", "sixth"]
 ALLOCATES, GROWS = D["ALLOCATES"].split(), D["GROWS"].split()
@@ -89,7 +89,7 @@ def inner(tree, bound):
     return f"({text})" if " " in text else text
 
 
-HEAD = f"""use Rattle.std.specs.Prelude.{{List, [], ◌∷◌, Option}}
+HEAD = f"""use Rattle.std.specs.Prelude.{{ℕ, List, [], ◌∷◌, reverse, Option}}
 use Rattle.text_table.specs.declared.part.Part.{{Part}}
 use Rattle.text_table.specs.declared.part.Part.TheVariants as N
 """
@@ -106,7 +106,7 @@ use Rattle.raw_ast.specs.declared.declarations.RawText.{RawText}
 use Rattle.raw_ast.specs.Types.{RawType}
 use Rattle.raw_ast.specs.Atoms.{RawAtom}
 use Rattle.raw_ast.specs.Code.{RawCode}
-""" + "".join(f"use Rattle.{CRATE}.specs.declared.rests.{n}.{{{n}}}\n"
+""" + "".join(f"use Rattle.{VALUES}.specs.declared.rests.{n}.{{{n}}}\n"
                for n in ("AfterTypeName", "VariantRest", "AfterName", "NameEnd", "AfterConstructor", "Bound"))
 
 
@@ -116,18 +116,21 @@ def carriers():
     text += "\n-- how code holds it\nabbrev pub held : (n : Part) → carrier n → Value\n"
     for p in WAYS:
         text += f"held N.{p} v = V.{KIND_OF[p]}{' v' if KINDS[KIND_OF[p]][0] else ''}\n"
-    return text.replace(TREES, TREES + f"use Rattle.{CRATE}.specs.declared.value.Value.{{Value}}\n"
-                        f"use Rattle.{CRATE}.specs.declared.value.Value.TheVariants as V\n")
+    return text.replace(TREES, TREES + f"use Rattle.{VALUES}.specs.declared.value.Value.{{Value}}\n"
+                        f"use Rattle.{VALUES}.specs.declared.value.Value.TheVariants as V\n")
 
 
 def makes():
     text = f"""-- For each production of the grammar, in order, what is made of the values of its symbols. {NOTE}
-{HEAD}use Rattle.table_reader.specs.Making.{{Makes, made_by}}
+{HEAD}use Rattle.table_reader.specs.declared.item.Item.{{Item}}
+use Rattle.table_reader.specs.Building.{{CanBuild, IsBuilt}}
+use Rattle.table_reader.specs.Making.{{Makes, made_by}}
 use Rattle.table_reader.specs.Reading.{{Made}}
 use Rattle.text_table.specs.declared.terminal.Terminal.{{Terminal}}
 use Rattle.text_table.specs.declared.lexeme.Lexeme.{{Lexeme}}
 use Rattle.text_table.specs.Productions.{{productions}}
-use Rattle.{CRATE}.specs.Carriers.{{carrier}}
+use Rattle.{VALUES}.specs.Carriers.{{carrier, held}}
+use Rattle.{VALUES}.specs.declared.value.Value.{{Value}}
 use Rattle.{CRATE}.specs.Ways as ways
 
 abbrev pub makes : (n : Part) → Makes Terminal Part Lexeme carrier n (productions n)
@@ -145,6 +148,14 @@ abbrev pub makes : (n : Part) → Makes Terminal Part Lexeme carrier n (producti
 -- the productions with what they make
 abbrev pub made : (n : Part) → List (Made Terminal Part Lexeme carrier n)
 made n = made_by Terminal Part Lexeme carrier productions makes n
+
+-- the values of the symbols of a part's production in this place stand on top
+abbrev pub CanMake : Part → ℕ → List (Item Lexeme Value) → Type 0
+CanMake n i values = CanBuild carrier held n (made n) i (reverse values)
+
+-- what the production makes of them, and they are taken off
+abbrev pub IsMade : Part → ℕ → List (Item Lexeme Value) → Value → List (Item Lexeme Value) → Type 0
+IsMade n i old it new = IsBuilt carrier held n (made n) i (reverse old) it (reverse new)
 """
 
 
@@ -159,8 +170,10 @@ use raw_ast::{
 
 
 def value():
-    text = f"//! The values of parts. {NOTE}\n\n{IMPORTS}\n/// What a part is read as.\n#[derive(Drop)]\npub enum Value {{\n"
-    return text + "".join(f"    {k}{f'({t})' if t else ''},\n" for k, (t, _) in KINDS.items()) + "}\n"
+    text = f"//! The values of parts. {NOTE}\n\n{IMPORTS}use aen_base::List;\nuse table_reader::Item;\nuse text_table::Lexeme;\n"
+    text += "\n/// What a part is read as.\n#[derive(Drop)]\npub enum Value {\n"
+    text += "".join(f"    {k}{f'({t})' if t else ''},\n" for k, (t, _) in KINDS.items()) + "}\n"
+    return text + "\n/// The values of symbols that were read, the newest last.\npub type Values = List<Item<Lexeme, Value>>;\n"
 
 
 def taking():
@@ -170,18 +183,17 @@ ghost use Rattle.std.specs.Prelude.{{◌≡◌, ◌∷◌, List, Option, reverse
 ghost use Rattle.table_reader.specs.declared.item.Item.{{Item}};
 ghost use Rattle.table_reader.specs.declared.item.Item.TheVariants as I;
 ghost use Rattle.text_table.specs.declared.lexeme.Lexeme.{{Lexeme}};
-ghost use Rattle.{CRATE}.specs.declared.value.Value.{{Value}};
-ghost use Rattle.{CRATE}.specs.declared.value.Value.TheVariants as V;
+ghost use Rattle.{VALUES}.specs.declared.value.Value.{{Value}};
+ghost use Rattle.{VALUES}.specs.declared.value.Value.TheVariants as V;
 """
     text += "".join("ghost " + line + ";\n" for line in TREES.strip().split("\n"))
     text += f"""
-{IMPORTS}use crate::value::Value;
-use aen_base::List;
+{IMPORTS}use crate::value::{{Value, Values}};
 use table_reader::Item;
 use text_table::Lexeme;
 
-/// Takes a token off.
-pub(crate) fn token(values: &mut List<Item<Lexeme, Value>>) -> Lexeme
+/// Takes a token off, which stands on top.
+pub fn token(values: &mut Values) -> Lexeme
     requires {{ (it : Lexeme) × ((below : List (Item Lexeme Value)) × (reverse values.old ≡ I.Token it ∷ below)) }}
     ensures {{ reverse values.old ≡ I.Token result ∷ reverse values.new }}
 {{
@@ -207,7 +219,8 @@ pub(crate) fn {kind_name(k)}(values: &mut List<Item<Lexeme, Value>>)
 """
             continue
         text += f"""
-pub(crate) fn {kind_name(k)}(values: &mut List<Item<Lexeme, Value>>) -> {t}
+/// Takes `{k}` off, which stands on top.
+pub fn {kind_name(k)}(values: &mut Values) -> {t}
     requires {{ (it : {s}) × ((below : List (Item Lexeme Value)) × (reverse values.old ≡ I.Part (V.{k} it) ∷ below)) }}
     ensures {{ reverse values.old ≡ I.Part (V.{k} result) ∷ reverse values.new }}
 {{
@@ -274,10 +287,9 @@ def function(p, i, way, production, single):
     alloc = "alloc: Global, " if body.alloc else ""
     unused = "" if production else "_"
     text = f"""
-/// The value of `{p}`{'' if single else f', production {i}'}.
-fn {name}({alloc}{unused}values: &mut List<Item<Lexeme, Value>>) -> Result<Value, NoMem>
-    requires {{ CanBuild carrier held N.{p} (made N.{p}) {i} (reverse {unused}values.old) }}
-    ensures {{ IfOk result (λ it. IsBuilt carrier held N.{p} (made N.{p}) {i} (reverse {unused}values.old) it (reverse {unused}values.new)) }}
+fn {name}({alloc}{unused}values: &mut Values) -> Result<Value, NoMem>
+    requires {{ CanMake N.{p} {i} {unused}values.old }}
+    ensures {{ IfOk result (λ it. IsMade N.{p} {i} {unused}values.old it {unused}values.new) }}
 {{
 {taken}{''.join(body.lines)}    Ok(Value::{kind}{f'({made})' if made else ''})
 }}
@@ -301,32 +313,28 @@ def building():
                 any_alloc |= body.alloc
                 arms += f"        {i} => {name}({'alloc, ' if body.alloc else ''}values),\n"
             functions += f"""
-/// The value of `{p}` by its production in this place.
-pub(crate) fn build_{snake(p)}({'alloc' if any_alloc else '_alloc'}: Global, index: usize, values: &mut List<Item<Lexeme, Value>>) -> Result<Value, NoMem>
-    requires {{ CanBuild carrier held N.{p} (made N.{p}) index (reverse values.old) }}
-    ensures {{ IfOk result (λ it. IsBuilt carrier held N.{p} (made N.{p}) index (reverse values.old) it (reverse values.new)) }}
+/// `{p}` by its production in this place.
+pub(crate) fn build_{snake(p)}({'alloc' if any_alloc else '_alloc'}: Global, index: usize, values: &mut Values) -> Result<Value, NoMem>
+    requires {{ CanMake N.{p} index values.old }}
+    ensures {{ IfOk result (λ it. IsMade N.{p} index values.old it values.new) }}
 {{
     match index {{
 {arms}        _ => unreachable!(),
     }}
 }}
 """
-        front = "use crate::front_list::FrontList;\n" if "FrontList::" in functions else ""
+        front = f"use {VALUES}::front_list::FrontList;\n" if "FrontList::" in functions else ""
         yield snake(section.split()[0]), f"""//! {section}. {NOTE}
 
-ghost use Rattle.std.specs.Prelude.{{◌≡◌, reverse, IfOk}};
-ghost use Rattle.table_reader.specs.Building.{{CanBuild, IsBuilt}};
+ghost use Rattle.std.specs.Prelude.{{IfOk}};
 ghost use Rattle.text_table.specs.declared.part.Part.TheVariants as N;
-ghost use Rattle.{CRATE}.specs.Carriers.{{carrier, held}};
-ghost use Rattle.{CRATE}.specs.Makes.{{made}};
+ghost use Rattle.{CRATE}.specs.Makes.{{CanMake, IsMade}};
 
-{front}use crate::taking as take;
-use crate::value::Value;
 use crate::ways::{{{', '.join(sorted(used - {'nothing'}))}}};
-use aen_base::{{List, NoMem}};
+use aen_base::NoMem;
+{front}use {VALUES}::taking as take;
+use {VALUES}::value::{{Value, Values}};
 use std::alloc::Global;
-use table_reader::Item;
-use text_table::Lexeme;
 """ + functions
 
 
@@ -339,7 +347,7 @@ use Rattle.std.proofs.Common.{{refl, reverse}}
 use Rattle.table_reader.specs.Building.{{can_build_at, built_at}}
 use Rattle.aen_base.specs.declared.memory.NoMem.{{NoMem}}
 use Rattle.text_table.specs.declared.part.Part.TheVariants as N
-use Rattle.{CRATE}.specs.Carriers.{{carrier, held}}
+use Rattle.{VALUES}.specs.Carriers.{{carrier, held}}
 use Rattle.{CRATE}.specs.Makes.{{made}}
 use Rattle.{CRATE}.proofs.building.{section}.build_{snake(p)}.Goals as goal
 """
@@ -362,21 +370,18 @@ def builds():
     arms = "".join(f"            Part::{p} => build_{snake(p)}(alloc, index, values),\n" for p in WAYS)
     return f"""//! How the values of productions are built. {NOTE}
 
-ghost use Rattle.std.specs.Prelude.{{◌≡◌, reverse, IfOk}};
-ghost use Rattle.table_reader.specs.Building.{{CanBuild, IsBuilt}};
-ghost use Rattle.{CRATE}.specs.Carriers.{{carrier, held}};
-ghost use Rattle.{CRATE}.specs.Makes.{{made}};
+ghost use Rattle.std.specs.Prelude.{{IfOk}};
+ghost use Rattle.{CRATE}.specs.Makes.{{CanMake, IsMade}};
 
-{uses}use crate::value::Value;
-use aen_base::{{List, NoMem}};
+{uses}use aen_base::NoMem;
+use {VALUES}::value::{{Value, Values}};
 use std::alloc::Global;
-use table_reader::Item;
-use text_table::{{Lexeme, Part}};
+use text_table::Part;
 
 /// The value of a part by its production in this place.
-pub(crate) fn build(alloc: Global, part: Part, index: usize, values: &mut List<Item<Lexeme, Value>>) -> Result<Value, NoMem>
-    requires {{ CanBuild carrier held part (made part) index (reverse values.old) }}
-    ensures {{ IfOk result (λ it. IsBuilt carrier held part (made part) index (reverse values.old) it (reverse values.new)) }}
+pub(crate) fn build(alloc: Global, part: Part, index: usize, values: &mut Values) -> Result<Value, NoMem>
+    requires {{ CanMake part index values.old }}
+    ensures {{ IfOk result (λ it. IsMade part index values.old it values.new) }}
 {{
     match part {{
 {arms}    }}
@@ -390,7 +395,7 @@ use Rattle.std.proofs.Common.{{refl, reverse}}
 use Rattle.table_reader.specs.Building.{{can_build_at, built_at}}
 use Rattle.aen_base.specs.declared.memory.NoMem.{{NoMem}}
 use Rattle.text_table.specs.declared.part.Part.TheVariants as N
-use Rattle.{CRATE}.specs.Carriers.{{carrier, held}}
+use Rattle.{VALUES}.specs.Carriers.{{carrier, held}}
 use Rattle.{CRATE}.specs.Makes.{{made}}
 use Rattle.{CRATE}.proofs.building.build.Goals as goal
 """
@@ -406,17 +411,17 @@ returns-in-{p} c = built_at carrier held made c.args.part N.{p} c.args.index c.a
     return text
 
 
-def write(name, text):
-    path = os.path.join(os.path.dirname(HERE), "crates", CRATE, name)
+def write(name, text, crate=CRATE):
+    path = os.path.join(os.path.dirname(HERE), "crates", crate, name)
     os.makedirs(os.path.dirname(path), exist_ok=True)
     open(path, "w", encoding="utf-8").write(text)
 
 
 def main():
-    write("specs/Carriers.antt", carriers())
+    write("specs/Carriers.antt", carriers(), VALUES)
     write("specs/Makes.antt", makes())
-    write("src/value.rt", value())
-    write("src/taking.rt", taking())
+    write("src/value.rt", value(), VALUES)
+    write("src/taking.rt", taking(), VALUES)
     files = []
     for name, text in building():
         write(f"src/building/{name}.rt", text)

@@ -1,4 +1,4 @@
--- RawCode is larger than its parts.
+-- Code is larger than its parts.
 use Rattle.std.specs.Prelude.{◌≤◌, ◌+◌, ◌*◌, ℕ, Option, Some, None, List, [], ◌∷◌}
 use Rattle.std.proofs.Common.{arith}
 use denote.Param.Weighed.{most}

@@ -52,11 +52,11 @@ fn parts_of(node: RawAtomNode) -> Option<List<RawAtom>>
     ensures { MatchOption result (atoms.nodes_rawatom (atom_of node) ≡ 1) (λ parts. atoms.nodes_rawatom (atom_of node) ≡ atoms.nodes_rawatoms (atoms.rawatoms parts) + 1) }
 {
     match node {
-        RawAtomNode::Var(_) => None,
-        RawAtomNode::Lit(_, _) => None,
+        RawAtomNode::Var(_variable) => None,
+        RawAtomNode::Lit(_number, _) => None,
         RawAtomNode::Bool(_) => None,
         RawAtomNode::Tuple(parts) => Some(parts),
-        RawAtomNode::Ctor(_, parts) => Some(parts),
+        RawAtomNode::Ctor(_name, parts) => Some(parts),
     }
 }
 

@@ -12,7 +12,7 @@ pub struct RawCode {
     pub node: RawCodeNode,
 }
 
-/// RawCode is dropped in a loop, however long its chains of binds and however deep its matches. The
+/// Code is dropped in a loop, however long its chains of binds and however deep its matches. The
 /// arms that are left to drop stand in one list; where a match has arms of its own, that list waits
 /// in the place of the first of them, which is dropped next.
 impl Drop for RawCode {
@@ -21,8 +21,8 @@ impl Drop for RawCode {
         loop {
             let RawCode { node } = self;
             match node {
-                RawCodeNode::Bind(_, _comp, rest) => self = rest.into_inner(),
-                RawCodeNode::Let(_, _atom, rest) => self = rest.into_inner(),
+                RawCodeNode::Bind(_variable, _comp, rest) => self = rest.into_inner(),
+                RawCodeNode::Let(_variable, _atom, rest) => self = rest.into_inner(),
                 RawCodeNode::Last(_comp) => match left {
                     None => return,
                     Some(waiting) => {

@@ -87,7 +87,7 @@ fn below_of(node: RawTypeNode) -> Below
         RawTypeNode::Bool => Below::Nothing,
         RawTypeNode::Unit => Below::Nothing,
         RawTypeNode::Prod(parts) => Below::Parts(parts),
-        RawTypeNode::Named(_, parts) => Below::Parts(parts),
+        RawTypeNode::Named(_name, parts) => Below::Parts(parts),
         RawTypeNode::Exit(broken, returned) => Below::Two(broken, returned),
     }
 }

@@ -1,4 +1,3 @@
 pub mod Words
-pub mod Carriers
 pub mod Ways
 pub mod Makes

@@ -28,16 +28,16 @@ use Rattle.raw_ast.specs.Atoms.{RawAtom}
 use Rattle.raw_ast.specs.Code as code
 use Rattle.raw_ast.specs.Code.{RawCode}
 use Rattle.raw_reader.specs.Words.{int_of, is_true, int_primitive, bool_primitive}
-use Rattle.raw_reader.specs.declared.rests.AfterTypeName.{AfterTypeName}
-use Rattle.raw_reader.specs.declared.rests.AfterTypeName.TheVariants as after_type
-use Rattle.raw_reader.specs.declared.rests.VariantRest.{VariantRest}
-use Rattle.raw_reader.specs.declared.rests.AfterName.{AfterName}
-use Rattle.raw_reader.specs.declared.rests.AfterName.TheVariants as after
-use Rattle.raw_reader.specs.declared.rests.NameEnd.{NameEnd}
-use Rattle.raw_reader.specs.declared.rests.AfterConstructor.{AfterConstructor}
-use Rattle.raw_reader.specs.declared.rests.AfterConstructor.TheVariants as after_constructor
-use Rattle.raw_reader.specs.declared.rests.Bound.{Bound}
-use Rattle.raw_reader.specs.declared.rests.Bound.TheVariants as bound
+use Rattle.raw_values.specs.declared.rests.AfterTypeName.{AfterTypeName}
+use Rattle.raw_values.specs.declared.rests.AfterTypeName.TheVariants as after_type
+use Rattle.raw_values.specs.declared.rests.VariantRest.{VariantRest}
+use Rattle.raw_values.specs.declared.rests.AfterName.{AfterName}
+use Rattle.raw_values.specs.declared.rests.AfterName.TheVariants as after
+use Rattle.raw_values.specs.declared.rests.NameEnd.{NameEnd}
+use Rattle.raw_values.specs.declared.rests.AfterConstructor.{AfterConstructor}
+use Rattle.raw_values.specs.declared.rests.AfterConstructor.TheVariants as after_constructor
+use Rattle.raw_values.specs.declared.rests.Bound.{Bound}
+use Rattle.raw_values.specs.declared.rests.Bound.TheVariants as bound
 
 abbrev pub nothing : Unit {0}
 nothing = tt

@@ -1,8 +1,8 @@
 use crate::building;
-use crate::value::Value;
-use aen_base::{List, NoMem};
+use aen_base::NoMem;
+use raw_values::value::{Value, Values};
 use std::alloc::Global;
-use table_reader::{Builds, Grammar, Item, Production, Take};
+use table_reader::{Builds, Grammar, Production, Take};
 use text_table::{Lexeme, Part, Terminal, TextGrammar};
 
 /// The grammar of printed texts, whose parts are read as what is spelled.
@@ -48,7 +48,7 @@ impl Builds for TextReader {
     ghost use Rattle.text_table.specs.declared.part.Part.{Part};
     ghost use Rattle.text_table.specs.declared.terminal.Terminal.{Terminal};
     ghost use Rattle.text_table.specs.Productions.{productions};
-    ghost use Rattle.raw_reader.specs.Carriers as carriers;
+    ghost use Rattle.raw_values.specs.Carriers as carriers;
     ghost use Rattle.raw_reader.specs.Makes as makes;
 
     type Value = Value;
@@ -68,12 +68,7 @@ impl Builds for TextReader {
         })
     }
 
-    fn build(
-        alloc: Global,
-        part: Part,
-        index: usize,
-        values: &mut List<Item<Lexeme, Value>>,
-    ) -> Result<Value, NoMem> {
+    fn build(alloc: Global, part: Part, index: usize, values: &mut Values) -> Result<Value, NoMem> {
         Ok(building::build(alloc, part, index, values)?)
     }
 

@@ -3,10 +3,6 @@
 
 mod building;
 mod builds;
-pub mod front_list;
-pub mod rests;
-mod taking;
-pub mod value;
 mod ways;
 mod words;
 

@@ -3,8 +3,6 @@
 ghost use Rattle.std.specs.Prelude.{◌≡◌, IfOk};
 ghost use Rattle.raw_reader.specs.Ways as spec;
 
-use crate::front_list::FrontList;
-use crate::rests::{AfterConstructor, AfterName, AfterTypeName, Bound, NameEnd, VariantRest};
 use crate::words::{bool_primitive, int_of, int_primitive, is_true};
 use aen_base::{Builtin, List, NoMem, RegionId};
 use pure_ast::Primitive;
@@ -12,6 +10,8 @@ use raw_ast::{
     Computation, Constructor, Declaration, Definition, DefinitionName, Members, Operation, Pattern,
     RawAtom, RawCode, RawText, RawType, Spelling, Variant,
 };
+use raw_values::front_list::FrontList;
+use raw_values::rests::{AfterConstructor, AfterName, AfterTypeName, Bound, NameEnd, VariantRest};
 use std::alloc::Global;
 use text_table::Lexeme;
 
@@ -65,11 +65,7 @@ pub(crate) fn product_type(
     Ok(RawType::product(parts.into_list()))
 }
 
-pub(crate) fn exit_type(
-    alloc: Global,
-    broken: RawType,
-    returned: RawType,
-) -> Result<RawType, NoMem>
+pub(crate) fn exit_type(alloc: Global, broken: RawType, returned: RawType) -> Result<RawType, NoMem>
     ensures { IfOk result (λ it. it ≡ spec.exit_type broken returned) }
 {
     Ok(RawType::exit(alloc, broken, returned)?)
@@ -106,10 +102,7 @@ pub(crate) fn after_name(
 
 // Declarations
 
-pub(crate) fn text(
-    types: FrontList<Declaration>,
-    definitions: FrontList<Definition>,
-) -> RawText
+pub(crate) fn text(types: FrontList<Declaration>, definitions: FrontList<Definition>) -> RawText
     ensures { result ≡ spec.text types definitions }
 {
     RawText {

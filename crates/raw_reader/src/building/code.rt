@@ -1,24 +1,24 @@
 //! Code. Written by tools/text_ways.py.
 
-ghost use Rattle.std.specs.Prelude.{◌≡◌, reverse, IfOk};
-ghost use Rattle.table_reader.specs.Building.{CanBuild, IsBuilt};
+ghost use Rattle.std.specs.Prelude.{IfOk};
 ghost use Rattle.text_table.specs.declared.part.Part.TheVariants as N;
-ghost use Rattle.raw_reader.specs.Carriers.{carrier, held};
-ghost use Rattle.raw_reader.specs.Makes.{made};
+ghost use Rattle.raw_reader.specs.Makes.{CanMake, IsMade};
 
-use crate::front_list::FrontList;
-use crate::taking as take;
-use crate::value::Value;
-use crate::ways::{arm, bool_cast, bool_operation, bound_atom, bound_computation, box_new, built_pattern, calls, cast_operation, fails, gives, int_operation, last_code, let_code, match_code, no_operation, operates, replace_back, replace_operation, some_operation, spelled, swap_back0, swap_back1, swap_operation, truth_pattern, tuple_pattern};
-use aen_base::{List, NoMem};
+use crate::ways::{
+    arm, bool_cast, bool_operation, bound_atom, bound_computation, box_new, built_pattern, calls,
+    cast_operation, fails, gives, int_operation, last_code, let_code, match_code, no_operation,
+    operates, replace_back, replace_operation, some_operation, spelled, swap_back0, swap_back1,
+    swap_operation, truth_pattern, tuple_pattern,
+};
+use aen_base::NoMem;
+use raw_values::front_list::FrontList;
+use raw_values::taking as take;
+use raw_values::value::{Value, Values};
 use std::alloc::Global;
-use table_reader::Item;
-use text_table::Lexeme;
 
-/// The value of `Code`, production 0.
-fn first_code(alloc: Global, values: &mut List<Item<Lexeme, Value>>) -> Result<Value, NoMem>
-    requires { CanBuild carrier held N.Code (made N.Code) 0 (reverse values.old) }
-    ensures { IfOk result (λ it. IsBuilt carrier held N.Code (made N.Code) 0 (reverse values.old) it (reverse values.new)) }
+fn first_code(alloc: Global, values: &mut Values) -> Result<Value, NoMem>
+    requires { CanMake N.Code 0 values.old }
+    ensures { IfOk result (λ it. IsMade N.Code 0 values.old it values.new) }
 {
     let bound = take::bound(values);
     let variable = take::token(values);
@@ -27,10 +27,9 @@ fn first_code(alloc: Global, values: &mut List<Item<Lexeme, Value>>) -> Result<V
     Ok(Value::Code(made))
 }
 
-/// The value of `Code`, production 1.
-fn second_code(values: &mut List<Item<Lexeme, Value>>) -> Result<Value, NoMem>
-    requires { CanBuild carrier held N.Code (made N.Code) 1 (reverse values.old) }
-    ensures { IfOk result (λ it. IsBuilt carrier held N.Code (made N.Code) 1 (reverse values.old) it (reverse values.new)) }
+fn second_code(values: &mut Values) -> Result<Value, NoMem>
+    requires { CanMake N.Code 1 values.old }
+    ensures { IfOk result (λ it. IsMade N.Code 1 values.old it values.new) }
 {
     let arms = take::arms(values);
     let _token = take::token(values);
@@ -40,19 +39,18 @@ fn second_code(values: &mut List<Item<Lexeme, Value>>) -> Result<Value, NoMem>
     Ok(Value::Code(match_code(atom, arms)))
 }
 
-/// The value of `Code`, production 2.
-fn third_code(values: &mut List<Item<Lexeme, Value>>) -> Result<Value, NoMem>
-    requires { CanBuild carrier held N.Code (made N.Code) 2 (reverse values.old) }
-    ensures { IfOk result (λ it. IsBuilt carrier held N.Code (made N.Code) 2 (reverse values.old) it (reverse values.new)) }
+fn third_code(values: &mut Values) -> Result<Value, NoMem>
+    requires { CanMake N.Code 2 values.old }
+    ensures { IfOk result (λ it. IsMade N.Code 2 values.old it values.new) }
 {
     let computation = take::computation(values);
     Ok(Value::Code(last_code(computation)))
 }
 
-/// The value of `Code` by its production in this place.
-pub(crate) fn build_code(alloc: Global, index: usize, values: &mut List<Item<Lexeme, Value>>) -> Result<Value, NoMem>
-    requires { CanBuild carrier held N.Code (made N.Code) index (reverse values.old) }
-    ensures { IfOk result (λ it. IsBuilt carrier held N.Code (made N.Code) index (reverse values.old) it (reverse values.new)) }
+/// `Code` by its production in this place.
+pub(crate) fn build_code(alloc: Global, index: usize, values: &mut Values) -> Result<Value, NoMem>
+    requires { CanMake N.Code index values.old }
+    ensures { IfOk result (λ it. IsMade N.Code index values.old it values.new) }
 {
     match index {
         0 => first_code(alloc, values),
@@ -62,10 +60,9 @@ pub(crate) fn build_code(alloc: Global, index: usize, values: &mut List<Item<Lex
     }
 }
 
-/// The value of `Bound`, production 0.
-fn first_bound(values: &mut List<Item<Lexeme, Value>>) -> Result<Value, NoMem>
-    requires { CanBuild carrier held N.Bound (made N.Bound) 0 (reverse values.old) }
-    ensures { IfOk result (λ it. IsBuilt carrier held N.Bound (made N.Bound) 0 (reverse values.old) it (reverse values.new)) }
+fn first_bound(values: &mut Values) -> Result<Value, NoMem>
+    requires { CanMake N.Bound 0 values.old }
+    ensures { IfOk result (λ it. IsMade N.Bound 0 values.old it values.new) }
 {
     let code = take::code(values);
     let _token = take::token(values);
@@ -74,10 +71,9 @@ fn first_bound(values: &mut List<Item<Lexeme, Value>>) -> Result<Value, NoMem>
     Ok(Value::Bound(bound_computation(computation, code)))
 }
 
-/// The value of `Bound`, production 1.
-fn second_bound(values: &mut List<Item<Lexeme, Value>>) -> Result<Value, NoMem>
-    requires { CanBuild carrier held N.Bound (made N.Bound) 1 (reverse values.old) }
-    ensures { IfOk result (λ it. IsBuilt carrier held N.Bound (made N.Bound) 1 (reverse values.old) it (reverse values.new)) }
+fn second_bound(values: &mut Values) -> Result<Value, NoMem>
+    requires { CanMake N.Bound 1 values.old }
+    ensures { IfOk result (λ it. IsMade N.Bound 1 values.old it values.new) }
 {
     let code = take::code(values);
     let _token = take::token(values);
@@ -86,10 +82,10 @@ fn second_bound(values: &mut List<Item<Lexeme, Value>>) -> Result<Value, NoMem>
     Ok(Value::Bound(bound_atom(atom, code)))
 }
 
-/// The value of `Bound` by its production in this place.
-pub(crate) fn build_bound(_alloc: Global, index: usize, values: &mut List<Item<Lexeme, Value>>) -> Result<Value, NoMem>
-    requires { CanBuild carrier held N.Bound (made N.Bound) index (reverse values.old) }
-    ensures { IfOk result (λ it. IsBuilt carrier held N.Bound (made N.Bound) index (reverse values.old) it (reverse values.new)) }
+/// `Bound` by its production in this place.
+pub(crate) fn build_bound(_alloc: Global, index: usize, values: &mut Values) -> Result<Value, NoMem>
+    requires { CanMake N.Bound index values.old }
+    ensures { IfOk result (λ it. IsMade N.Bound index values.old it values.new) }
 {
     match index {
         0 => first_bound(values),
@@ -98,19 +94,17 @@ pub(crate) fn build_bound(_alloc: Global, index: usize, values: &mut List<Item<L
     }
 }
 
-/// The value of `Arms`, production 0.
-fn first_arms(alloc: Global, values: &mut List<Item<Lexeme, Value>>) -> Result<Value, NoMem>
-    requires { CanBuild carrier held N.Arms (made N.Arms) 0 (reverse values.old) }
-    ensures { IfOk result (λ it. IsBuilt carrier held N.Arms (made N.Arms) 0 (reverse values.old) it (reverse values.new)) }
+fn first_arms(alloc: Global, values: &mut Values) -> Result<Value, NoMem>
+    requires { CanMake N.Arms 0 values.old }
+    ensures { IfOk result (λ it. IsMade N.Arms 0 values.old it values.new) }
 {
     let _token = take::token(values);
     Ok(Value::Arms(FrontList::new(alloc)))
 }
 
-/// The value of `Arms`, production 1.
-fn second_arms(values: &mut List<Item<Lexeme, Value>>) -> Result<Value, NoMem>
-    requires { CanBuild carrier held N.Arms (made N.Arms) 1 (reverse values.old) }
-    ensures { IfOk result (λ it. IsBuilt carrier held N.Arms (made N.Arms) 1 (reverse values.old) it (reverse values.new)) }
+fn second_arms(values: &mut Values) -> Result<Value, NoMem>
+    requires { CanMake N.Arms 1 values.old }
+    ensures { IfOk result (λ it. IsMade N.Arms 1 values.old it values.new) }
 {
     let more = take::arms(values);
     let code = take::code(values);
@@ -122,10 +116,10 @@ fn second_arms(values: &mut List<Item<Lexeme, Value>>) -> Result<Value, NoMem>
     Ok(Value::Arms(made))
 }
 
-/// The value of `Arms` by its production in this place.
-pub(crate) fn build_arms(alloc: Global, index: usize, values: &mut List<Item<Lexeme, Value>>) -> Result<Value, NoMem>
-    requires { CanBuild carrier held N.Arms (made N.Arms) index (reverse values.old) }
-    ensures { IfOk result (λ it. IsBuilt carrier held N.Arms (made N.Arms) index (reverse values.old) it (reverse values.new)) }
+/// `Arms` by its production in this place.
+pub(crate) fn build_arms(alloc: Global, index: usize, values: &mut Values) -> Result<Value, NoMem>
+    requires { CanMake N.Arms index values.old }
+    ensures { IfOk result (λ it. IsMade N.Arms index values.old it values.new) }
 {
     match index {
         0 => first_arms(alloc, values),
@@ -134,19 +128,17 @@ pub(crate) fn build_arms(alloc: Global, index: usize, values: &mut List<Item<Lex
     }
 }
 
-/// The value of `Pattern`, production 0.
-fn first_pattern(values: &mut List<Item<Lexeme, Value>>) -> Result<Value, NoMem>
-    requires { CanBuild carrier held N.Pattern (made N.Pattern) 0 (reverse values.old) }
-    ensures { IfOk result (λ it. IsBuilt carrier held N.Pattern (made N.Pattern) 0 (reverse values.old) it (reverse values.new)) }
+fn first_pattern(values: &mut Values) -> Result<Value, NoMem>
+    requires { CanMake N.Pattern 0 values.old }
+    ensures { IfOk result (λ it. IsMade N.Pattern 0 values.old it values.new) }
 {
     let word = take::token(values);
     Ok(Value::Pattern(truth_pattern(word)))
 }
 
-/// The value of `Pattern`, production 1.
-fn second_pattern(values: &mut List<Item<Lexeme, Value>>) -> Result<Value, NoMem>
-    requires { CanBuild carrier held N.Pattern (made N.Pattern) 1 (reverse values.old) }
-    ensures { IfOk result (λ it. IsBuilt carrier held N.Pattern (made N.Pattern) 1 (reverse values.old) it (reverse values.new)) }
+fn second_pattern(values: &mut Values) -> Result<Value, NoMem>
+    requires { CanMake N.Pattern 1 values.old }
+    ensures { IfOk result (λ it. IsMade N.Pattern 1 values.old it values.new) }
 {
     let more = take::names(values);
     let second = take::token(values);
@@ -157,20 +149,23 @@ fn second_pattern(values: &mut List<Item<Lexeme, Value>>) -> Result<Value, NoMem
     Ok(Value::Pattern(made))
 }
 
-/// The value of `Pattern`, production 2.
-fn third_pattern(values: &mut List<Item<Lexeme, Value>>) -> Result<Value, NoMem>
-    requires { CanBuild carrier held N.Pattern (made N.Pattern) 2 (reverse values.old) }
-    ensures { IfOk result (λ it. IsBuilt carrier held N.Pattern (made N.Pattern) 2 (reverse values.old) it (reverse values.new)) }
+fn third_pattern(values: &mut Values) -> Result<Value, NoMem>
+    requires { CanMake N.Pattern 2 values.old }
+    ensures { IfOk result (λ it. IsMade N.Pattern 2 values.old it values.new) }
 {
     let variables = take::names(values);
     let name = take::constructor(values);
     Ok(Value::Pattern(built_pattern(name, variables)))
 }
 
-/// The value of `Pattern` by its production in this place.
-pub(crate) fn build_pattern(_alloc: Global, index: usize, values: &mut List<Item<Lexeme, Value>>) -> Result<Value, NoMem>
-    requires { CanBuild carrier held N.Pattern (made N.Pattern) index (reverse values.old) }
-    ensures { IfOk result (λ it. IsBuilt carrier held N.Pattern (made N.Pattern) index (reverse values.old) it (reverse values.new)) }
+/// `Pattern` by its production in this place.
+pub(crate) fn build_pattern(
+    _alloc: Global,
+    index: usize,
+    values: &mut Values,
+) -> Result<Value, NoMem>
+    requires { CanMake N.Pattern index values.old }
+    ensures { IfOk result (λ it. IsMade N.Pattern index values.old it values.new) }
 {
     match index {
         0 => first_pattern(values),
@@ -180,19 +175,17 @@ pub(crate) fn build_pattern(_alloc: Global, index: usize, values: &mut List<Item
     }
 }
 
-/// The value of `PatternParts`, production 0.
-fn first_pattern_parts(alloc: Global, values: &mut List<Item<Lexeme, Value>>) -> Result<Value, NoMem>
-    requires { CanBuild carrier held N.PatternParts (made N.PatternParts) 0 (reverse values.old) }
-    ensures { IfOk result (λ it. IsBuilt carrier held N.PatternParts (made N.PatternParts) 0 (reverse values.old) it (reverse values.new)) }
+fn first_pattern_parts(alloc: Global, values: &mut Values) -> Result<Value, NoMem>
+    requires { CanMake N.PatternParts 0 values.old }
+    ensures { IfOk result (λ it. IsMade N.PatternParts 0 values.old it values.new) }
 {
     let _token = take::token(values);
     Ok(Value::Names(FrontList::new(alloc)))
 }
 
-/// The value of `PatternParts`, production 1.
-fn second_pattern_parts(values: &mut List<Item<Lexeme, Value>>) -> Result<Value, NoMem>
-    requires { CanBuild carrier held N.PatternParts (made N.PatternParts) 1 (reverse values.old) }
-    ensures { IfOk result (λ it. IsBuilt carrier held N.PatternParts (made N.PatternParts) 1 (reverse values.old) it (reverse values.new)) }
+fn second_pattern_parts(values: &mut Values) -> Result<Value, NoMem>
+    requires { CanMake N.PatternParts 1 values.old }
+    ensures { IfOk result (λ it. IsMade N.PatternParts 1 values.old it values.new) }
 {
     let more = take::names(values);
     let variable = take::token(values);
@@ -201,10 +194,14 @@ fn second_pattern_parts(values: &mut List<Item<Lexeme, Value>>) -> Result<Value,
     Ok(Value::Names(made))
 }
 
-/// The value of `PatternParts` by its production in this place.
-pub(crate) fn build_pattern_parts(alloc: Global, index: usize, values: &mut List<Item<Lexeme, Value>>) -> Result<Value, NoMem>
-    requires { CanBuild carrier held N.PatternParts (made N.PatternParts) index (reverse values.old) }
-    ensures { IfOk result (λ it. IsBuilt carrier held N.PatternParts (made N.PatternParts) index (reverse values.old) it (reverse values.new)) }
+/// `PatternParts` by its production in this place.
+pub(crate) fn build_pattern_parts(
+    alloc: Global,
+    index: usize,
+    values: &mut Values,
+) -> Result<Value, NoMem>
+    requires { CanMake N.PatternParts index values.old }
+    ensures { IfOk result (λ it. IsMade N.PatternParts index values.old it values.new) }
 {
     match index {
         0 => first_pattern_parts(alloc, values),
@@ -213,18 +210,16 @@ pub(crate) fn build_pattern_parts(alloc: Global, index: usize, values: &mut List
     }
 }
 
-/// The value of `Variables`, production 0.
-fn first_variables(alloc: Global, _values: &mut List<Item<Lexeme, Value>>) -> Result<Value, NoMem>
-    requires { CanBuild carrier held N.Variables (made N.Variables) 0 (reverse _values.old) }
-    ensures { IfOk result (λ it. IsBuilt carrier held N.Variables (made N.Variables) 0 (reverse _values.old) it (reverse _values.new)) }
+fn first_variables(alloc: Global, _values: &mut Values) -> Result<Value, NoMem>
+    requires { CanMake N.Variables 0 _values.old }
+    ensures { IfOk result (λ it. IsMade N.Variables 0 _values.old it _values.new) }
 {
     Ok(Value::Names(FrontList::new(alloc)))
 }
 
-/// The value of `Variables`, production 1.
-fn second_variables(values: &mut List<Item<Lexeme, Value>>) -> Result<Value, NoMem>
-    requires { CanBuild carrier held N.Variables (made N.Variables) 1 (reverse values.old) }
-    ensures { IfOk result (λ it. IsBuilt carrier held N.Variables (made N.Variables) 1 (reverse values.old) it (reverse values.new)) }
+fn second_variables(values: &mut Values) -> Result<Value, NoMem>
+    requires { CanMake N.Variables 1 values.old }
+    ensures { IfOk result (λ it. IsMade N.Variables 1 values.old it values.new) }
 {
     let more = take::names(values);
     let variable = take::token(values);
@@ -232,10 +227,14 @@ fn second_variables(values: &mut List<Item<Lexeme, Value>>) -> Result<Value, NoM
     Ok(Value::Names(made))
 }
 
-/// The value of `Variables` by its production in this place.
-pub(crate) fn build_variables(alloc: Global, index: usize, values: &mut List<Item<Lexeme, Value>>) -> Result<Value, NoMem>
-    requires { CanBuild carrier held N.Variables (made N.Variables) index (reverse values.old) }
-    ensures { IfOk result (λ it. IsBuilt carrier held N.Variables (made N.Variables) index (reverse values.old) it (reverse values.new)) }
+/// `Variables` by its production in this place.
+pub(crate) fn build_variables(
+    alloc: Global,
+    index: usize,
+    values: &mut Values,
+) -> Result<Value, NoMem>
+    requires { CanMake N.Variables index values.old }
+    ensures { IfOk result (λ it. IsMade N.Variables index values.old it values.new) }
 {
     match index {
         0 => first_variables(alloc, values),
@@ -244,29 +243,26 @@ pub(crate) fn build_variables(alloc: Global, index: usize, values: &mut List<Ite
     }
 }
 
-/// The value of `Computation`, production 0.
-fn first_computation(values: &mut List<Item<Lexeme, Value>>) -> Result<Value, NoMem>
-    requires { CanBuild carrier held N.Computation (made N.Computation) 0 (reverse values.old) }
-    ensures { IfOk result (λ it. IsBuilt carrier held N.Computation (made N.Computation) 0 (reverse values.old) it (reverse values.new)) }
+fn first_computation(values: &mut Values) -> Result<Value, NoMem>
+    requires { CanMake N.Computation 0 values.old }
+    ensures { IfOk result (λ it. IsMade N.Computation 0 values.old it values.new) }
 {
     let atom = take::atom(values);
     let _token = take::token(values);
     Ok(Value::Computation(gives(atom)))
 }
 
-/// The value of `Computation`, production 1.
-fn second_computation(values: &mut List<Item<Lexeme, Value>>) -> Result<Value, NoMem>
-    requires { CanBuild carrier held N.Computation (made N.Computation) 1 (reverse values.old) }
-    ensures { IfOk result (λ it. IsBuilt carrier held N.Computation (made N.Computation) 1 (reverse values.old) it (reverse values.new)) }
+fn second_computation(values: &mut Values) -> Result<Value, NoMem>
+    requires { CanMake N.Computation 1 values.old }
+    ensures { IfOk result (λ it. IsMade N.Computation 1 values.old it values.new) }
 {
     let _token = take::token(values);
     Ok(Value::Computation(fails()))
 }
 
-/// The value of `Computation`, production 2.
-fn third_computation(values: &mut List<Item<Lexeme, Value>>) -> Result<Value, NoMem>
-    requires { CanBuild carrier held N.Computation (made N.Computation) 2 (reverse values.old) }
-    ensures { IfOk result (λ it. IsBuilt carrier held N.Computation (made N.Computation) 2 (reverse values.old) it (reverse values.new)) }
+fn third_computation(values: &mut Values) -> Result<Value, NoMem>
+    requires { CanMake N.Computation 2 values.old }
+    ensures { IfOk result (λ it. IsMade N.Computation 2 values.old it values.new) }
 {
     let atoms = take::atoms(values);
     let _token = take::token(values);
@@ -274,20 +270,23 @@ fn third_computation(values: &mut List<Item<Lexeme, Value>>) -> Result<Value, No
     Ok(Value::Computation(calls(name, atoms)))
 }
 
-/// The value of `Computation`, production 3.
-fn fourth_computation(values: &mut List<Item<Lexeme, Value>>) -> Result<Value, NoMem>
-    requires { CanBuild carrier held N.Computation (made N.Computation) 3 (reverse values.old) }
-    ensures { IfOk result (λ it. IsBuilt carrier held N.Computation (made N.Computation) 3 (reverse values.old) it (reverse values.new)) }
+fn fourth_computation(values: &mut Values) -> Result<Value, NoMem>
+    requires { CanMake N.Computation 3 values.old }
+    ensures { IfOk result (λ it. IsMade N.Computation 3 values.old it values.new) }
 {
     let atoms = take::atoms(values);
     let operation = take::operation(values);
     Ok(Value::Computation(operates(operation, atoms)))
 }
 
-/// The value of `Computation` by its production in this place.
-pub(crate) fn build_computation(_alloc: Global, index: usize, values: &mut List<Item<Lexeme, Value>>) -> Result<Value, NoMem>
-    requires { CanBuild carrier held N.Computation (made N.Computation) index (reverse values.old) }
-    ensures { IfOk result (λ it. IsBuilt carrier held N.Computation (made N.Computation) index (reverse values.old) it (reverse values.new)) }
+/// `Computation` by its production in this place.
+pub(crate) fn build_computation(
+    _alloc: Global,
+    index: usize,
+    values: &mut Values,
+) -> Result<Value, NoMem>
+    requires { CanMake N.Computation index values.old }
+    ensures { IfOk result (λ it. IsMade N.Computation index values.old it values.new) }
 {
     match index {
         0 => first_computation(values),
@@ -298,10 +297,9 @@ pub(crate) fn build_computation(_alloc: Global, index: usize, values: &mut List<
     }
 }
 
-/// The value of `Primitive`, production 0.
-fn first_primitive(values: &mut List<Item<Lexeme, Value>>) -> Result<Value, NoMem>
-    requires { CanBuild carrier held N.Primitive (made N.Primitive) 0 (reverse values.old) }
-    ensures { IfOk result (λ it. IsBuilt carrier held N.Primitive (made N.Primitive) 0 (reverse values.old) it (reverse values.new)) }
+fn first_primitive(values: &mut Values) -> Result<Value, NoMem>
+    requires { CanMake N.Primitive 0 values.old }
+    ensures { IfOk result (λ it. IsMade N.Primitive 0 values.old it values.new) }
 {
     let operator = take::token(values);
     let _token = take::token(values);
@@ -309,10 +307,9 @@ fn first_primitive(values: &mut List<Item<Lexeme, Value>>) -> Result<Value, NoMe
     Ok(Value::Operation(int_operation(ty, operator)))
 }
 
-/// The value of `Primitive`, production 1.
-fn second_primitive(values: &mut List<Item<Lexeme, Value>>) -> Result<Value, NoMem>
-    requires { CanBuild carrier held N.Primitive (made N.Primitive) 1 (reverse values.old) }
-    ensures { IfOk result (λ it. IsBuilt carrier held N.Primitive (made N.Primitive) 1 (reverse values.old) it (reverse values.new)) }
+fn second_primitive(values: &mut Values) -> Result<Value, NoMem>
+    requires { CanMake N.Primitive 1 values.old }
+    ensures { IfOk result (λ it. IsMade N.Primitive 1 values.old it values.new) }
 {
     let operator = take::token(values);
     let _token = take::token(values);
@@ -320,10 +317,9 @@ fn second_primitive(values: &mut List<Item<Lexeme, Value>>) -> Result<Value, NoM
     Ok(Value::Operation(bool_operation(operator)))
 }
 
-/// The value of `Primitive`, production 2.
-fn third_primitive(values: &mut List<Item<Lexeme, Value>>) -> Result<Value, NoMem>
-    requires { CanBuild carrier held N.Primitive (made N.Primitive) 2 (reverse values.old) }
-    ensures { IfOk result (λ it. IsBuilt carrier held N.Primitive (made N.Primitive) 2 (reverse values.old) it (reverse values.new)) }
+fn third_primitive(values: &mut Values) -> Result<Value, NoMem>
+    requires { CanMake N.Primitive 2 values.old }
+    ensures { IfOk result (λ it. IsMade N.Primitive 2 values.old it values.new) }
 {
     let operation = take::operation(values);
     let _token = take::token(values);
@@ -331,10 +327,9 @@ fn third_primitive(values: &mut List<Item<Lexeme, Value>>) -> Result<Value, NoMe
     Ok(Value::Operation(operation))
 }
 
-/// The value of `Primitive`, production 3.
-fn fourth_primitive(values: &mut List<Item<Lexeme, Value>>) -> Result<Value, NoMem>
-    requires { CanBuild carrier held N.Primitive (made N.Primitive) 3 (reverse values.old) }
-    ensures { IfOk result (λ it. IsBuilt carrier held N.Primitive (made N.Primitive) 3 (reverse values.old) it (reverse values.new)) }
+fn fourth_primitive(values: &mut Values) -> Result<Value, NoMem>
+    requires { CanMake N.Primitive 3 values.old }
+    ensures { IfOk result (λ it. IsMade N.Primitive 3 values.old it values.new) }
 {
     let word = take::token(values);
     let _token = take::token(values);
@@ -342,10 +337,9 @@ fn fourth_primitive(values: &mut List<Item<Lexeme, Value>>) -> Result<Value, NoM
     Ok(Value::Operation(box_new(word)))
 }
 
-/// The value of `Primitive`, production 4.
-fn fifth_primitive(values: &mut List<Item<Lexeme, Value>>) -> Result<Value, NoMem>
-    requires { CanBuild carrier held N.Primitive (made N.Primitive) 4 (reverse values.old) }
-    ensures { IfOk result (λ it. IsBuilt carrier held N.Primitive (made N.Primitive) 4 (reverse values.old) it (reverse values.new)) }
+fn fifth_primitive(values: &mut Values) -> Result<Value, NoMem>
+    requires { CanMake N.Primitive 4 values.old }
+    ensures { IfOk result (λ it. IsMade N.Primitive 4 values.old it values.new) }
 {
     let operation = take::operation(values);
     let _token = take::token(values);
@@ -353,10 +347,14 @@ fn fifth_primitive(values: &mut List<Item<Lexeme, Value>>) -> Result<Value, NoMe
     Ok(Value::Operation(operation))
 }
 
-/// The value of `Primitive` by its production in this place.
-pub(crate) fn build_primitive(_alloc: Global, index: usize, values: &mut List<Item<Lexeme, Value>>) -> Result<Value, NoMem>
-    requires { CanBuild carrier held N.Primitive (made N.Primitive) index (reverse values.old) }
-    ensures { IfOk result (λ it. IsBuilt carrier held N.Primitive (made N.Primitive) index (reverse values.old) it (reverse values.new)) }
+/// `Primitive` by its production in this place.
+pub(crate) fn build_primitive(
+    _alloc: Global,
+    index: usize,
+    values: &mut Values,
+) -> Result<Value, NoMem>
+    requires { CanMake N.Primitive index values.old }
+    ensures { IfOk result (λ it. IsMade N.Primitive index values.old it values.new) }
 {
     match index {
         0 => first_primitive(values),
@@ -368,10 +366,9 @@ pub(crate) fn build_primitive(_alloc: Global, index: usize, values: &mut List<It
     }
 }
 
-/// The value of `CastFrom`, production 0.
-fn first_cast_from(values: &mut List<Item<Lexeme, Value>>) -> Result<Value, NoMem>
-    requires { CanBuild carrier held N.CastFrom (made N.CastFrom) 0 (reverse values.old) }
-    ensures { IfOk result (λ it. IsBuilt carrier held N.CastFrom (made N.CastFrom) 0 (reverse values.old) it (reverse values.new)) }
+fn first_cast_from(values: &mut Values) -> Result<Value, NoMem>
+    requires { CanMake N.CastFrom 0 values.old }
+    ensures { IfOk result (λ it. IsMade N.CastFrom 0 values.old it values.new) }
 {
     let to = take::token(values);
     let _token = take::token(values);
@@ -379,10 +376,9 @@ fn first_cast_from(values: &mut List<Item<Lexeme, Value>>) -> Result<Value, NoMe
     Ok(Value::Operation(cast_operation(from, to)))
 }
 
-/// The value of `CastFrom`, production 1.
-fn second_cast_from(values: &mut List<Item<Lexeme, Value>>) -> Result<Value, NoMem>
-    requires { CanBuild carrier held N.CastFrom (made N.CastFrom) 1 (reverse values.old) }
-    ensures { IfOk result (λ it. IsBuilt carrier held N.CastFrom (made N.CastFrom) 1 (reverse values.old) it (reverse values.new)) }
+fn second_cast_from(values: &mut Values) -> Result<Value, NoMem>
+    requires { CanMake N.CastFrom 1 values.old }
+    ensures { IfOk result (λ it. IsMade N.CastFrom 1 values.old it values.new) }
 {
     let to = take::token(values);
     let _token = take::token(values);
@@ -390,10 +386,14 @@ fn second_cast_from(values: &mut List<Item<Lexeme, Value>>) -> Result<Value, NoM
     Ok(Value::Operation(bool_cast(to)))
 }
 
-/// The value of `CastFrom` by its production in this place.
-pub(crate) fn build_cast_from(_alloc: Global, index: usize, values: &mut List<Item<Lexeme, Value>>) -> Result<Value, NoMem>
-    requires { CanBuild carrier held N.CastFrom (made N.CastFrom) index (reverse values.old) }
-    ensures { IfOk result (λ it. IsBuilt carrier held N.CastFrom (made N.CastFrom) index (reverse values.old) it (reverse values.new)) }
+/// `CastFrom` by its production in this place.
+pub(crate) fn build_cast_from(
+    _alloc: Global,
+    index: usize,
+    values: &mut Values,
+) -> Result<Value, NoMem>
+    requires { CanMake N.CastFrom index values.old }
+    ensures { IfOk result (λ it. IsMade N.CastFrom index values.old it values.new) }
 {
     match index {
         0 => first_cast_from(values),
@@ -402,30 +402,32 @@ pub(crate) fn build_cast_from(_alloc: Global, index: usize, values: &mut List<It
     }
 }
 
-/// The value of `InMemory`, production 0.
-fn first_in_memory(values: &mut List<Item<Lexeme, Value>>) -> Result<Value, NoMem>
-    requires { CanBuild carrier held N.InMemory (made N.InMemory) 0 (reverse values.old) }
-    ensures { IfOk result (λ it. IsBuilt carrier held N.InMemory (made N.InMemory) 0 (reverse values.old) it (reverse values.new)) }
+fn first_in_memory(values: &mut Values) -> Result<Value, NoMem>
+    requires { CanMake N.InMemory 0 values.old }
+    ensures { IfOk result (λ it. IsMade N.InMemory 0 values.old it values.new) }
 {
     let end = take::operation_end(values);
     let word = take::token(values);
     Ok(Value::Operation(replace_operation(word, end)))
 }
 
-/// The value of `InMemory`, production 1.
-fn second_in_memory(values: &mut List<Item<Lexeme, Value>>) -> Result<Value, NoMem>
-    requires { CanBuild carrier held N.InMemory (made N.InMemory) 1 (reverse values.old) }
-    ensures { IfOk result (λ it. IsBuilt carrier held N.InMemory (made N.InMemory) 1 (reverse values.old) it (reverse values.new)) }
+fn second_in_memory(values: &mut Values) -> Result<Value, NoMem>
+    requires { CanMake N.InMemory 1 values.old }
+    ensures { IfOk result (λ it. IsMade N.InMemory 1 values.old it values.new) }
 {
     let end = take::operation_end(values);
     let word = take::token(values);
     Ok(Value::Operation(swap_operation(word, end)))
 }
 
-/// The value of `InMemory` by its production in this place.
-pub(crate) fn build_in_memory(_alloc: Global, index: usize, values: &mut List<Item<Lexeme, Value>>) -> Result<Value, NoMem>
-    requires { CanBuild carrier held N.InMemory (made N.InMemory) index (reverse values.old) }
-    ensures { IfOk result (λ it. IsBuilt carrier held N.InMemory (made N.InMemory) index (reverse values.old) it (reverse values.new)) }
+/// `InMemory` by its production in this place.
+pub(crate) fn build_in_memory(
+    _alloc: Global,
+    index: usize,
+    values: &mut Values,
+) -> Result<Value, NoMem>
+    requires { CanMake N.InMemory index values.old }
+    ensures { IfOk result (λ it. IsMade N.InMemory index values.old it values.new) }
 {
     match index {
         0 => first_in_memory(values),
@@ -434,28 +436,30 @@ pub(crate) fn build_in_memory(_alloc: Global, index: usize, values: &mut List<It
     }
 }
 
-/// The value of `ReplaceEnd`, production 0.
-fn first_replace_end(_values: &mut List<Item<Lexeme, Value>>) -> Result<Value, NoMem>
-    requires { CanBuild carrier held N.ReplaceEnd (made N.ReplaceEnd) 0 (reverse _values.old) }
-    ensures { IfOk result (λ it. IsBuilt carrier held N.ReplaceEnd (made N.ReplaceEnd) 0 (reverse _values.old) it (reverse _values.new)) }
+fn first_replace_end(_values: &mut Values) -> Result<Value, NoMem>
+    requires { CanMake N.ReplaceEnd 0 _values.old }
+    ensures { IfOk result (λ it. IsMade N.ReplaceEnd 0 _values.old it _values.new) }
 {
     Ok(Value::OperationEnd(no_operation()))
 }
 
-/// The value of `ReplaceEnd`, production 1.
-fn second_replace_end(values: &mut List<Item<Lexeme, Value>>) -> Result<Value, NoMem>
-    requires { CanBuild carrier held N.ReplaceEnd (made N.ReplaceEnd) 1 (reverse values.old) }
-    ensures { IfOk result (λ it. IsBuilt carrier held N.ReplaceEnd (made N.ReplaceEnd) 1 (reverse values.old) it (reverse values.new)) }
+fn second_replace_end(values: &mut Values) -> Result<Value, NoMem>
+    requires { CanMake N.ReplaceEnd 1 values.old }
+    ensures { IfOk result (λ it. IsMade N.ReplaceEnd 1 values.old it values.new) }
 {
     let word = take::token(values);
     let _token = take::token(values);
     Ok(Value::OperationEnd(some_operation(replace_back(word))))
 }
 
-/// The value of `ReplaceEnd` by its production in this place.
-pub(crate) fn build_replace_end(_alloc: Global, index: usize, values: &mut List<Item<Lexeme, Value>>) -> Result<Value, NoMem>
-    requires { CanBuild carrier held N.ReplaceEnd (made N.ReplaceEnd) index (reverse values.old) }
-    ensures { IfOk result (λ it. IsBuilt carrier held N.ReplaceEnd (made N.ReplaceEnd) index (reverse values.old) it (reverse values.new)) }
+/// `ReplaceEnd` by its production in this place.
+pub(crate) fn build_replace_end(
+    _alloc: Global,
+    index: usize,
+    values: &mut Values,
+) -> Result<Value, NoMem>
+    requires { CanMake N.ReplaceEnd index values.old }
+    ensures { IfOk result (λ it. IsMade N.ReplaceEnd index values.old it values.new) }
 {
     match index {
         0 => first_replace_end(values),
@@ -464,28 +468,30 @@ pub(crate) fn build_replace_end(_alloc: Global, index: usize, values: &mut List<
     }
 }
 
-/// The value of `SwapEnd`, production 0.
-fn first_swap_end(_values: &mut List<Item<Lexeme, Value>>) -> Result<Value, NoMem>
-    requires { CanBuild carrier held N.SwapEnd (made N.SwapEnd) 0 (reverse _values.old) }
-    ensures { IfOk result (λ it. IsBuilt carrier held N.SwapEnd (made N.SwapEnd) 0 (reverse _values.old) it (reverse _values.new)) }
+fn first_swap_end(_values: &mut Values) -> Result<Value, NoMem>
+    requires { CanMake N.SwapEnd 0 _values.old }
+    ensures { IfOk result (λ it. IsMade N.SwapEnd 0 _values.old it _values.new) }
 {
     Ok(Value::OperationEnd(no_operation()))
 }
 
-/// The value of `SwapEnd`, production 1.
-fn second_swap_end(values: &mut List<Item<Lexeme, Value>>) -> Result<Value, NoMem>
-    requires { CanBuild carrier held N.SwapEnd (made N.SwapEnd) 1 (reverse values.old) }
-    ensures { IfOk result (λ it. IsBuilt carrier held N.SwapEnd (made N.SwapEnd) 1 (reverse values.old) it (reverse values.new)) }
+fn second_swap_end(values: &mut Values) -> Result<Value, NoMem>
+    requires { CanMake N.SwapEnd 1 values.old }
+    ensures { IfOk result (λ it. IsMade N.SwapEnd 1 values.old it values.new) }
 {
     let operation = take::operation(values);
     let _token = take::token(values);
     Ok(Value::OperationEnd(some_operation(operation)))
 }
 
-/// The value of `SwapEnd` by its production in this place.
-pub(crate) fn build_swap_end(_alloc: Global, index: usize, values: &mut List<Item<Lexeme, Value>>) -> Result<Value, NoMem>
-    requires { CanBuild carrier held N.SwapEnd (made N.SwapEnd) index (reverse values.old) }
-    ensures { IfOk result (λ it. IsBuilt carrier held N.SwapEnd (made N.SwapEnd) index (reverse values.old) it (reverse values.new)) }
+/// `SwapEnd` by its production in this place.
+pub(crate) fn build_swap_end(
+    _alloc: Global,
+    index: usize,
+    values: &mut Values,
+) -> Result<Value, NoMem>
+    requires { CanMake N.SwapEnd index values.old }
+    ensures { IfOk result (λ it. IsMade N.SwapEnd index values.old it values.new) }
 {
     match index {
         0 => first_swap_end(values),
@@ -494,28 +500,30 @@ pub(crate) fn build_swap_end(_alloc: Global, index: usize, values: &mut List<Ite
     }
 }
 
-/// The value of `SwapRegion`, production 0.
-fn first_swap_region(values: &mut List<Item<Lexeme, Value>>) -> Result<Value, NoMem>
-    requires { CanBuild carrier held N.SwapRegion (made N.SwapRegion) 0 (reverse values.old) }
-    ensures { IfOk result (λ it. IsBuilt carrier held N.SwapRegion (made N.SwapRegion) 0 (reverse values.old) it (reverse values.new)) }
+fn first_swap_region(values: &mut Values) -> Result<Value, NoMem>
+    requires { CanMake N.SwapRegion 0 values.old }
+    ensures { IfOk result (λ it. IsMade N.SwapRegion 0 values.old it values.new) }
 {
     let word = take::token(values);
     Ok(Value::Operation(swap_back0(word)))
 }
 
-/// The value of `SwapRegion`, production 1.
-fn second_swap_region(values: &mut List<Item<Lexeme, Value>>) -> Result<Value, NoMem>
-    requires { CanBuild carrier held N.SwapRegion (made N.SwapRegion) 1 (reverse values.old) }
-    ensures { IfOk result (λ it. IsBuilt carrier held N.SwapRegion (made N.SwapRegion) 1 (reverse values.old) it (reverse values.new)) }
+fn second_swap_region(values: &mut Values) -> Result<Value, NoMem>
+    requires { CanMake N.SwapRegion 1 values.old }
+    ensures { IfOk result (λ it. IsMade N.SwapRegion 1 values.old it values.new) }
 {
     let word = take::token(values);
     Ok(Value::Operation(swap_back1(word)))
 }
 
-/// The value of `SwapRegion` by its production in this place.
-pub(crate) fn build_swap_region(_alloc: Global, index: usize, values: &mut List<Item<Lexeme, Value>>) -> Result<Value, NoMem>
-    requires { CanBuild carrier held N.SwapRegion (made N.SwapRegion) index (reverse values.old) }
-    ensures { IfOk result (λ it. IsBuilt carrier held N.SwapRegion (made N.SwapRegion) index (reverse values.old) it (reverse values.new)) }
+/// `SwapRegion` by its production in this place.
+pub(crate) fn build_swap_region(
+    _alloc: Global,
+    index: usize,
+    values: &mut Values,
+) -> Result<Value, NoMem>
+    requires { CanMake N.SwapRegion index values.old }
+    ensures { IfOk result (λ it. IsMade N.SwapRegion index values.old it values.new) }
 {
     match index {
         0 => first_swap_region(values),

@@ -1,24 +1,22 @@
 //! Declarations. Written by tools/text_ways.py.
 
-ghost use Rattle.std.specs.Prelude.{◌≡◌, reverse, IfOk};
-ghost use Rattle.table_reader.specs.Building.{CanBuild, IsBuilt};
+ghost use Rattle.std.specs.Prelude.{IfOk};
 ghost use Rattle.text_table.specs.declared.part.Part.TheVariants as N;
-ghost use Rattle.raw_reader.specs.Carriers.{carrier, held};
-ghost use Rattle.raw_reader.specs.Makes.{made};
+ghost use Rattle.raw_reader.specs.Makes.{CanMake, IsMade};
 
-use crate::front_list::FrontList;
-use crate::taking as take;
-use crate::value::Value;
-use crate::ways::{end_parameters, ended, field, field_first, inductive, more_fields, name_first, spelled, structure, text, variant};
-use aen_base::{List, NoMem};
+use crate::ways::{
+    end_parameters, ended, field, field_first, inductive, more_fields, name_first, spelled,
+    structure, text, variant,
+};
+use aen_base::NoMem;
+use raw_values::front_list::FrontList;
+use raw_values::taking as take;
+use raw_values::value::{Value, Values};
 use std::alloc::Global;
-use table_reader::Item;
-use text_table::Lexeme;
 
-/// The value of `Text`.
-fn text(values: &mut List<Item<Lexeme, Value>>) -> Result<Value, NoMem>
-    requires { CanBuild carrier held N.Text (made N.Text) 0 (reverse values.old) }
-    ensures { IfOk result (λ it. IsBuilt carrier held N.Text (made N.Text) 0 (reverse values.old) it (reverse values.new)) }
+fn text(values: &mut Values) -> Result<Value, NoMem>
+    requires { CanMake N.Text 0 values.old }
+    ensures { IfOk result (λ it. IsMade N.Text 0 values.old it values.new) }
 {
     let definitions = take::definitions(values);
     let types = take::declarations(values);
@@ -29,10 +27,10 @@ fn text(values: &mut List<Item<Lexeme, Value>>) -> Result<Value, NoMem>
     Ok(Value::Text(text(types, definitions)))
 }
 
-/// The value of `Text` by its production in this place.
-pub(crate) fn build_text(_alloc: Global, index: usize, values: &mut List<Item<Lexeme, Value>>) -> Result<Value, NoMem>
-    requires { CanBuild carrier held N.Text (made N.Text) index (reverse values.old) }
-    ensures { IfOk result (λ it. IsBuilt carrier held N.Text (made N.Text) index (reverse values.old) it (reverse values.new)) }
+/// `Text` by its production in this place.
+pub(crate) fn build_text(_alloc: Global, index: usize, values: &mut Values) -> Result<Value, NoMem>
+    requires { CanMake N.Text index values.old }
+    ensures { IfOk result (λ it. IsMade N.Text index values.old it values.new) }
 {
     match index {
         0 => text(values),
@@ -40,18 +38,16 @@ pub(crate) fn build_text(_alloc: Global, index: usize, values: &mut List<Item<Le
     }
 }
 
-/// The value of `Types`, production 0.
-fn first_types(alloc: Global, _values: &mut List<Item<Lexeme, Value>>) -> Result<Value, NoMem>
-    requires { CanBuild carrier held N.Types (made N.Types) 0 (reverse _values.old) }
-    ensures { IfOk result (λ it. IsBuilt carrier held N.Types (made N.Types) 0 (reverse _values.old) it (reverse _values.new)) }
+fn first_types(alloc: Global, _values: &mut Values) -> Result<Value, NoMem>
+    requires { CanMake N.Types 0 _values.old }
+    ensures { IfOk result (λ it. IsMade N.Types 0 _values.old it _values.new) }
 {
     Ok(Value::Declarations(FrontList::new(alloc)))
 }
 
-/// The value of `Types`, production 1.
-fn second_types(values: &mut List<Item<Lexeme, Value>>) -> Result<Value, NoMem>
-    requires { CanBuild carrier held N.Types (made N.Types) 1 (reverse values.old) }
-    ensures { IfOk result (λ it. IsBuilt carrier held N.Types (made N.Types) 1 (reverse values.old) it (reverse values.new)) }
+fn second_types(values: &mut Values) -> Result<Value, NoMem>
+    requires { CanMake N.Types 1 values.old }
+    ensures { IfOk result (λ it. IsMade N.Types 1 values.old it values.new) }
 {
     let more = take::declarations(values);
     let one = take::declaration(values);
@@ -59,10 +55,10 @@ fn second_types(values: &mut List<Item<Lexeme, Value>>) -> Result<Value, NoMem>
     Ok(Value::Declarations(made))
 }
 
-/// The value of `Types` by its production in this place.
-pub(crate) fn build_types(alloc: Global, index: usize, values: &mut List<Item<Lexeme, Value>>) -> Result<Value, NoMem>
-    requires { CanBuild carrier held N.Types (made N.Types) index (reverse values.old) }
-    ensures { IfOk result (λ it. IsBuilt carrier held N.Types (made N.Types) index (reverse values.old) it (reverse values.new)) }
+/// `Types` by its production in this place.
+pub(crate) fn build_types(alloc: Global, index: usize, values: &mut Values) -> Result<Value, NoMem>
+    requires { CanMake N.Types index values.old }
+    ensures { IfOk result (λ it. IsMade N.Types index values.old it values.new) }
 {
     match index {
         0 => first_types(alloc, values),
@@ -71,10 +67,9 @@ pub(crate) fn build_types(alloc: Global, index: usize, values: &mut List<Item<Le
     }
 }
 
-/// The value of `Declaration`, production 0.
-fn first_declaration(values: &mut List<Item<Lexeme, Value>>) -> Result<Value, NoMem>
-    requires { CanBuild carrier held N.Declaration (made N.Declaration) 0 (reverse values.old) }
-    ensures { IfOk result (λ it. IsBuilt carrier held N.Declaration (made N.Declaration) 0 (reverse values.old) it (reverse values.new)) }
+fn first_declaration(values: &mut Values) -> Result<Value, NoMem>
+    requires { CanMake N.Declaration 0 values.old }
+    ensures { IfOk result (λ it. IsMade N.Declaration 0 values.old it values.new) }
 {
     let variants = take::variants(values);
     let _token = take::token(values);
@@ -84,10 +79,9 @@ fn first_declaration(values: &mut List<Item<Lexeme, Value>>) -> Result<Value, No
     Ok(Value::Declaration(inductive(name, parameters, variants)))
 }
 
-/// The value of `Declaration`, production 1.
-fn second_declaration(values: &mut List<Item<Lexeme, Value>>) -> Result<Value, NoMem>
-    requires { CanBuild carrier held N.Declaration (made N.Declaration) 1 (reverse values.old) }
-    ensures { IfOk result (λ it. IsBuilt carrier held N.Declaration (made N.Declaration) 1 (reverse values.old) it (reverse values.new)) }
+fn second_declaration(values: &mut Values) -> Result<Value, NoMem>
+    requires { CanMake N.Declaration 1 values.old }
+    ensures { IfOk result (λ it. IsMade N.Declaration 1 values.old it values.new) }
 {
     let fields = take::fields(values);
     let _token = take::token(values);
@@ -97,10 +91,14 @@ fn second_declaration(values: &mut List<Item<Lexeme, Value>>) -> Result<Value, N
     Ok(Value::Declaration(structure(name, parameters, fields)))
 }
 
-/// The value of `Declaration` by its production in this place.
-pub(crate) fn build_declaration(_alloc: Global, index: usize, values: &mut List<Item<Lexeme, Value>>) -> Result<Value, NoMem>
-    requires { CanBuild carrier held N.Declaration (made N.Declaration) index (reverse values.old) }
-    ensures { IfOk result (λ it. IsBuilt carrier held N.Declaration (made N.Declaration) index (reverse values.old) it (reverse values.new)) }
+/// `Declaration` by its production in this place.
+pub(crate) fn build_declaration(
+    _alloc: Global,
+    index: usize,
+    values: &mut Values,
+) -> Result<Value, NoMem>
+    requires { CanMake N.Declaration index values.old }
+    ensures { IfOk result (λ it. IsMade N.Declaration index values.old it values.new) }
 {
     match index {
         0 => first_declaration(values),
@@ -109,18 +107,16 @@ pub(crate) fn build_declaration(_alloc: Global, index: usize, values: &mut List<
     }
 }
 
-/// The value of `TypeParameters`, production 0.
-fn first_type_parameters(alloc: Global, _values: &mut List<Item<Lexeme, Value>>) -> Result<Value, NoMem>
-    requires { CanBuild carrier held N.TypeParameters (made N.TypeParameters) 0 (reverse _values.old) }
-    ensures { IfOk result (λ it. IsBuilt carrier held N.TypeParameters (made N.TypeParameters) 0 (reverse _values.old) it (reverse _values.new)) }
+fn first_type_parameters(alloc: Global, _values: &mut Values) -> Result<Value, NoMem>
+    requires { CanMake N.TypeParameters 0 _values.old }
+    ensures { IfOk result (λ it. IsMade N.TypeParameters 0 _values.old it _values.new) }
 {
     Ok(Value::Names(FrontList::new(alloc)))
 }
 
-/// The value of `TypeParameters`, production 1.
-fn second_type_parameters(values: &mut List<Item<Lexeme, Value>>) -> Result<Value, NoMem>
-    requires { CanBuild carrier held N.TypeParameters (made N.TypeParameters) 1 (reverse values.old) }
-    ensures { IfOk result (λ it. IsBuilt carrier held N.TypeParameters (made N.TypeParameters) 1 (reverse values.old) it (reverse values.new)) }
+fn second_type_parameters(values: &mut Values) -> Result<Value, NoMem>
+    requires { CanMake N.TypeParameters 1 values.old }
+    ensures { IfOk result (λ it. IsMade N.TypeParameters 1 values.old it values.new) }
 {
     let more = take::names(values);
     let _token = take::token(values);
@@ -132,10 +128,14 @@ fn second_type_parameters(values: &mut List<Item<Lexeme, Value>>) -> Result<Valu
     Ok(Value::Names(made))
 }
 
-/// The value of `TypeParameters` by its production in this place.
-pub(crate) fn build_type_parameters(alloc: Global, index: usize, values: &mut List<Item<Lexeme, Value>>) -> Result<Value, NoMem>
-    requires { CanBuild carrier held N.TypeParameters (made N.TypeParameters) index (reverse values.old) }
-    ensures { IfOk result (λ it. IsBuilt carrier held N.TypeParameters (made N.TypeParameters) index (reverse values.old) it (reverse values.new)) }
+/// `TypeParameters` by its production in this place.
+pub(crate) fn build_type_parameters(
+    alloc: Global,
+    index: usize,
+    values: &mut Values,
+) -> Result<Value, NoMem>
+    requires { CanMake N.TypeParameters index values.old }
+    ensures { IfOk result (λ it. IsMade N.TypeParameters index values.old it values.new) }
 {
     match index {
         0 => first_type_parameters(alloc, values),
@@ -144,18 +144,16 @@ pub(crate) fn build_type_parameters(alloc: Global, index: usize, values: &mut Li
     }
 }
 
-/// The value of `Variants`, production 0.
-fn first_variants(alloc: Global, _values: &mut List<Item<Lexeme, Value>>) -> Result<Value, NoMem>
-    requires { CanBuild carrier held N.Variants (made N.Variants) 0 (reverse _values.old) }
-    ensures { IfOk result (λ it. IsBuilt carrier held N.Variants (made N.Variants) 0 (reverse _values.old) it (reverse _values.new)) }
+fn first_variants(alloc: Global, _values: &mut Values) -> Result<Value, NoMem>
+    requires { CanMake N.Variants 0 _values.old }
+    ensures { IfOk result (λ it. IsMade N.Variants 0 _values.old it _values.new) }
 {
     Ok(Value::Variants(FrontList::new(alloc)))
 }
 
-/// The value of `Variants`, production 1.
-fn second_variants(values: &mut List<Item<Lexeme, Value>>) -> Result<Value, NoMem>
-    requires { CanBuild carrier held N.Variants (made N.Variants) 1 (reverse values.old) }
-    ensures { IfOk result (λ it. IsBuilt carrier held N.Variants (made N.Variants) 1 (reverse values.old) it (reverse values.new)) }
+fn second_variants(values: &mut Values) -> Result<Value, NoMem>
+    requires { CanMake N.Variants 1 values.old }
+    ensures { IfOk result (λ it. IsMade N.Variants 1 values.old it values.new) }
 {
     let more = take::variants(values);
     let rest = take::variant_rest(values);
@@ -166,10 +164,14 @@ fn second_variants(values: &mut List<Item<Lexeme, Value>>) -> Result<Value, NoMe
     Ok(Value::Variants(made))
 }
 
-/// The value of `Variants` by its production in this place.
-pub(crate) fn build_variants(alloc: Global, index: usize, values: &mut List<Item<Lexeme, Value>>) -> Result<Value, NoMem>
-    requires { CanBuild carrier held N.Variants (made N.Variants) index (reverse values.old) }
-    ensures { IfOk result (λ it. IsBuilt carrier held N.Variants (made N.Variants) index (reverse values.old) it (reverse values.new)) }
+/// `Variants` by its production in this place.
+pub(crate) fn build_variants(
+    alloc: Global,
+    index: usize,
+    values: &mut Values,
+) -> Result<Value, NoMem>
+    requires { CanMake N.Variants index values.old }
+    ensures { IfOk result (λ it. IsMade N.Variants index values.old it values.new) }
 {
     match index {
         0 => first_variants(alloc, values),
@@ -178,10 +180,9 @@ pub(crate) fn build_variants(alloc: Global, index: usize, values: &mut List<Item
     }
 }
 
-/// The value of `VariantType`, production 0.
-fn first_variant_type(values: &mut List<Item<Lexeme, Value>>) -> Result<Value, NoMem>
-    requires { CanBuild carrier held N.VariantType (made N.VariantType) 0 (reverse values.old) }
-    ensures { IfOk result (λ it. IsBuilt carrier held N.VariantType (made N.VariantType) 0 (reverse values.old) it (reverse values.new)) }
+fn first_variant_type(values: &mut Values) -> Result<Value, NoMem>
+    requires { CanMake N.VariantType 0 values.old }
+    ensures { IfOk result (λ it. IsMade N.VariantType 0 values.old it values.new) }
 {
     let rest = take::variant_rest(values);
     let _token = take::token(values);
@@ -190,10 +191,9 @@ fn first_variant_type(values: &mut List<Item<Lexeme, Value>>) -> Result<Value, N
     Ok(Value::VariantRest(made))
 }
 
-/// The value of `VariantType`, production 1.
-fn second_variant_type(alloc: Global, values: &mut List<Item<Lexeme, Value>>) -> Result<Value, NoMem>
-    requires { CanBuild carrier held N.VariantType (made N.VariantType) 1 (reverse values.old) }
-    ensures { IfOk result (λ it. IsBuilt carrier held N.VariantType (made N.VariantType) 1 (reverse values.old) it (reverse values.new)) }
+fn second_variant_type(alloc: Global, values: &mut Values) -> Result<Value, NoMem>
+    requires { CanMake N.VariantType 1 values.old }
+    ensures { IfOk result (λ it. IsMade N.VariantType 1 values.old it values.new) }
 {
     let after = take::after_name(values);
     let name = take::token(values);
@@ -201,10 +201,14 @@ fn second_variant_type(alloc: Global, values: &mut List<Item<Lexeme, Value>>) ->
     Ok(Value::VariantRest(made))
 }
 
-/// The value of `VariantType` by its production in this place.
-pub(crate) fn build_variant_type(alloc: Global, index: usize, values: &mut List<Item<Lexeme, Value>>) -> Result<Value, NoMem>
-    requires { CanBuild carrier held N.VariantType (made N.VariantType) index (reverse values.old) }
-    ensures { IfOk result (λ it. IsBuilt carrier held N.VariantType (made N.VariantType) index (reverse values.old) it (reverse values.new)) }
+/// `VariantType` by its production in this place.
+pub(crate) fn build_variant_type(
+    alloc: Global,
+    index: usize,
+    values: &mut Values,
+) -> Result<Value, NoMem>
+    requires { CanMake N.VariantType index values.old }
+    ensures { IfOk result (λ it. IsMade N.VariantType index values.old it values.new) }
 {
     match index {
         0 => first_variant_type(values),
@@ -213,29 +217,26 @@ pub(crate) fn build_variant_type(alloc: Global, index: usize, values: &mut List<
     }
 }
 
-/// The value of `VariantEnd`, production 0.
-fn first_variant_end(alloc: Global, _values: &mut List<Item<Lexeme, Value>>) -> Result<Value, NoMem>
-    requires { CanBuild carrier held N.VariantEnd (made N.VariantEnd) 0 (reverse _values.old) }
-    ensures { IfOk result (λ it. IsBuilt carrier held N.VariantEnd (made N.VariantEnd) 0 (reverse _values.old) it (reverse _values.new)) }
+fn first_variant_end(alloc: Global, _values: &mut Values) -> Result<Value, NoMem>
+    requires { CanMake N.VariantEnd 0 _values.old }
+    ensures { IfOk result (λ it. IsMade N.VariantEnd 0 _values.old it _values.new) }
 {
     let made = ended(alloc)?;
     Ok(Value::AfterName(made))
 }
 
-/// The value of `VariantEnd`, production 1.
-fn second_variant_end(values: &mut List<Item<Lexeme, Value>>) -> Result<Value, NoMem>
-    requires { CanBuild carrier held N.VariantEnd (made N.VariantEnd) 1 (reverse values.old) }
-    ensures { IfOk result (λ it. IsBuilt carrier held N.VariantEnd (made N.VariantEnd) 1 (reverse values.old) it (reverse values.new)) }
+fn second_variant_end(values: &mut Values) -> Result<Value, NoMem>
+    requires { CanMake N.VariantEnd 1 values.old }
+    ensures { IfOk result (λ it. IsMade N.VariantEnd 1 values.old it values.new) }
 {
     let rest = take::variant_rest(values);
     let _token = take::token(values);
     Ok(Value::AfterName(more_fields(rest)))
 }
 
-/// The value of `VariantEnd`, production 2.
-fn third_variant_end(values: &mut List<Item<Lexeme, Value>>) -> Result<Value, NoMem>
-    requires { CanBuild carrier held N.VariantEnd (made N.VariantEnd) 2 (reverse values.old) }
-    ensures { IfOk result (λ it. IsBuilt carrier held N.VariantEnd (made N.VariantEnd) 2 (reverse values.old) it (reverse values.new)) }
+fn third_variant_end(values: &mut Values) -> Result<Value, NoMem>
+    requires { CanMake N.VariantEnd 2 values.old }
+    ensures { IfOk result (λ it. IsMade N.VariantEnd 2 values.old it values.new) }
 {
     let more = take::names(values);
     let name = take::token(values);
@@ -243,10 +244,14 @@ fn third_variant_end(values: &mut List<Item<Lexeme, Value>>) -> Result<Value, No
     Ok(Value::AfterName(end_parameters(made)))
 }
 
-/// The value of `VariantEnd` by its production in this place.
-pub(crate) fn build_variant_end(alloc: Global, index: usize, values: &mut List<Item<Lexeme, Value>>) -> Result<Value, NoMem>
-    requires { CanBuild carrier held N.VariantEnd (made N.VariantEnd) index (reverse values.old) }
-    ensures { IfOk result (λ it. IsBuilt carrier held N.VariantEnd (made N.VariantEnd) index (reverse values.old) it (reverse values.new)) }
+/// `VariantEnd` by its production in this place.
+pub(crate) fn build_variant_end(
+    alloc: Global,
+    index: usize,
+    values: &mut Values,
+) -> Result<Value, NoMem>
+    requires { CanMake N.VariantEnd index values.old }
+    ensures { IfOk result (λ it. IsMade N.VariantEnd index values.old it values.new) }
 {
     match index {
         0 => first_variant_end(alloc, values),
@@ -256,18 +261,16 @@ pub(crate) fn build_variant_end(alloc: Global, index: usize, values: &mut List<I
     }
 }
 
-/// The value of `Names`, production 0.
-fn first_names(alloc: Global, _values: &mut List<Item<Lexeme, Value>>) -> Result<Value, NoMem>
-    requires { CanBuild carrier held N.Names (made N.Names) 0 (reverse _values.old) }
-    ensures { IfOk result (λ it. IsBuilt carrier held N.Names (made N.Names) 0 (reverse _values.old) it (reverse _values.new)) }
+fn first_names(alloc: Global, _values: &mut Values) -> Result<Value, NoMem>
+    requires { CanMake N.Names 0 _values.old }
+    ensures { IfOk result (λ it. IsMade N.Names 0 _values.old it _values.new) }
 {
     Ok(Value::Names(FrontList::new(alloc)))
 }
 
-/// The value of `Names`, production 1.
-fn second_names(values: &mut List<Item<Lexeme, Value>>) -> Result<Value, NoMem>
-    requires { CanBuild carrier held N.Names (made N.Names) 1 (reverse values.old) }
-    ensures { IfOk result (λ it. IsBuilt carrier held N.Names (made N.Names) 1 (reverse values.old) it (reverse values.new)) }
+fn second_names(values: &mut Values) -> Result<Value, NoMem>
+    requires { CanMake N.Names 1 values.old }
+    ensures { IfOk result (λ it. IsMade N.Names 1 values.old it values.new) }
 {
     let more = take::names(values);
     let name = take::token(values);
@@ -275,10 +278,10 @@ fn second_names(values: &mut List<Item<Lexeme, Value>>) -> Result<Value, NoMem>
     Ok(Value::Names(made))
 }
 
-/// The value of `Names` by its production in this place.
-pub(crate) fn build_names(alloc: Global, index: usize, values: &mut List<Item<Lexeme, Value>>) -> Result<Value, NoMem>
-    requires { CanBuild carrier held N.Names (made N.Names) index (reverse values.old) }
-    ensures { IfOk result (λ it. IsBuilt carrier held N.Names (made N.Names) index (reverse values.old) it (reverse values.new)) }
+/// `Names` by its production in this place.
+pub(crate) fn build_names(alloc: Global, index: usize, values: &mut Values) -> Result<Value, NoMem>
+    requires { CanMake N.Names index values.old }
+    ensures { IfOk result (λ it. IsMade N.Names index values.old it values.new) }
 {
     match index {
         0 => first_names(alloc, values),
@@ -287,18 +290,16 @@ pub(crate) fn build_names(alloc: Global, index: usize, values: &mut List<Item<Le
     }
 }
 
-/// The value of `Fields`, production 0.
-fn first_fields(alloc: Global, _values: &mut List<Item<Lexeme, Value>>) -> Result<Value, NoMem>
-    requires { CanBuild carrier held N.Fields (made N.Fields) 0 (reverse _values.old) }
-    ensures { IfOk result (λ it. IsBuilt carrier held N.Fields (made N.Fields) 0 (reverse _values.old) it (reverse _values.new)) }
+fn first_fields(alloc: Global, _values: &mut Values) -> Result<Value, NoMem>
+    requires { CanMake N.Fields 0 _values.old }
+    ensures { IfOk result (λ it. IsMade N.Fields 0 _values.old it _values.new) }
 {
     Ok(Value::Fields(FrontList::new(alloc)))
 }
 
-/// The value of `Fields`, production 1.
-fn second_fields(values: &mut List<Item<Lexeme, Value>>) -> Result<Value, NoMem>
-    requires { CanBuild carrier held N.Fields (made N.Fields) 1 (reverse values.old) }
-    ensures { IfOk result (λ it. IsBuilt carrier held N.Fields (made N.Fields) 1 (reverse values.old) it (reverse values.new)) }
+fn second_fields(values: &mut Values) -> Result<Value, NoMem>
+    requires { CanMake N.Fields 1 values.old }
+    ensures { IfOk result (λ it. IsMade N.Fields 1 values.old it values.new) }
 {
     let more = take::fields(values);
     let _token = take::token(values);
@@ -310,10 +311,10 @@ fn second_fields(values: &mut List<Item<Lexeme, Value>>) -> Result<Value, NoMem>
     Ok(Value::Fields(made))
 }
 
-/// The value of `Fields` by its production in this place.
-pub(crate) fn build_fields(alloc: Global, index: usize, values: &mut List<Item<Lexeme, Value>>) -> Result<Value, NoMem>
-    requires { CanBuild carrier held N.Fields (made N.Fields) index (reverse values.old) }
-    ensures { IfOk result (λ it. IsBuilt carrier held N.Fields (made N.Fields) index (reverse values.old) it (reverse values.new)) }
+/// `Fields` by its production in this place.
+pub(crate) fn build_fields(alloc: Global, index: usize, values: &mut Values) -> Result<Value, NoMem>
+    requires { CanMake N.Fields index values.old }
+    ensures { IfOk result (λ it. IsMade N.Fields index values.old it values.new) }
 {
     match index {
         0 => first_fields(alloc, values),

@@ -1,32 +1,28 @@
 //! Definitions. Written by tools/text_ways.py.
 
-ghost use Rattle.std.specs.Prelude.{◌≡◌, reverse, IfOk};
-ghost use Rattle.table_reader.specs.Building.{CanBuild, IsBuilt};
+ghost use Rattle.std.specs.Prelude.{IfOk};
 ghost use Rattle.text_table.specs.declared.part.Part.TheVariants as N;
-ghost use Rattle.raw_reader.specs.Carriers.{carrier, held};
-ghost use Rattle.raw_reader.specs.Makes.{made};
+ghost use Rattle.raw_reader.specs.Makes.{CanMake, IsMade};
 
-use crate::front_list::FrontList;
-use crate::taking as take;
-use crate::value::Value;
-use crate::ways::{back_end, definition, definition_name, field, loop_end, no_back, no_end, some_back, spelled};
-use aen_base::{List, NoMem};
+use crate::ways::{
+    back_end, definition, definition_name, field, loop_end, no_back, no_end, some_back, spelled,
+};
+use aen_base::NoMem;
+use raw_values::front_list::FrontList;
+use raw_values::taking as take;
+use raw_values::value::{Value, Values};
 use std::alloc::Global;
-use table_reader::Item;
-use text_table::Lexeme;
 
-/// The value of `Definitions`, production 0.
-fn first_definitions(alloc: Global, _values: &mut List<Item<Lexeme, Value>>) -> Result<Value, NoMem>
-    requires { CanBuild carrier held N.Definitions (made N.Definitions) 0 (reverse _values.old) }
-    ensures { IfOk result (λ it. IsBuilt carrier held N.Definitions (made N.Definitions) 0 (reverse _values.old) it (reverse _values.new)) }
+fn first_definitions(alloc: Global, _values: &mut Values) -> Result<Value, NoMem>
+    requires { CanMake N.Definitions 0 _values.old }
+    ensures { IfOk result (λ it. IsMade N.Definitions 0 _values.old it _values.new) }
 {
     Ok(Value::Definitions(FrontList::new(alloc)))
 }
 
-/// The value of `Definitions`, production 1.
-fn second_definitions(values: &mut List<Item<Lexeme, Value>>) -> Result<Value, NoMem>
-    requires { CanBuild carrier held N.Definitions (made N.Definitions) 1 (reverse values.old) }
-    ensures { IfOk result (λ it. IsBuilt carrier held N.Definitions (made N.Definitions) 1 (reverse values.old) it (reverse values.new)) }
+fn second_definitions(values: &mut Values) -> Result<Value, NoMem>
+    requires { CanMake N.Definitions 1 values.old }
+    ensures { IfOk result (λ it. IsMade N.Definitions 1 values.old it values.new) }
 {
     let more = take::definitions(values);
     let one = take::definition(values);
@@ -34,10 +30,14 @@ fn second_definitions(values: &mut List<Item<Lexeme, Value>>) -> Result<Value, N
     Ok(Value::Definitions(made))
 }
 
-/// The value of `Definitions` by its production in this place.
-pub(crate) fn build_definitions(alloc: Global, index: usize, values: &mut List<Item<Lexeme, Value>>) -> Result<Value, NoMem>
-    requires { CanBuild carrier held N.Definitions (made N.Definitions) index (reverse values.old) }
-    ensures { IfOk result (λ it. IsBuilt carrier held N.Definitions (made N.Definitions) index (reverse values.old) it (reverse values.new)) }
+/// `Definitions` by its production in this place.
+pub(crate) fn build_definitions(
+    alloc: Global,
+    index: usize,
+    values: &mut Values,
+) -> Result<Value, NoMem>
+    requires { CanMake N.Definitions index values.old }
+    ensures { IfOk result (λ it. IsMade N.Definitions index values.old it values.new) }
 {
     match index {
         0 => first_definitions(alloc, values),
@@ -46,10 +46,9 @@ pub(crate) fn build_definitions(alloc: Global, index: usize, values: &mut List<I
     }
 }
 
-/// The value of `Definition`.
-fn definition(values: &mut List<Item<Lexeme, Value>>) -> Result<Value, NoMem>
-    requires { CanBuild carrier held N.Definition (made N.Definition) 0 (reverse values.old) }
-    ensures { IfOk result (λ it. IsBuilt carrier held N.Definition (made N.Definition) 0 (reverse values.old) it (reverse values.new)) }
+fn definition(values: &mut Values) -> Result<Value, NoMem>
+    requires { CanMake N.Definition 0 values.old }
+    ensures { IfOk result (λ it. IsMade N.Definition 0 values.old it values.new) }
 {
     let code = take::code(values);
     take::nothing(values);
@@ -65,10 +64,14 @@ fn definition(values: &mut List<Item<Lexeme, Value>>) -> Result<Value, NoMem>
     Ok(Value::Definition(definition(name, type_parameters, parameters, result, code)))
 }
 
-/// The value of `Definition` by its production in this place.
-pub(crate) fn build_definition(_alloc: Global, index: usize, values: &mut List<Item<Lexeme, Value>>) -> Result<Value, NoMem>
-    requires { CanBuild carrier held N.Definition (made N.Definition) index (reverse values.old) }
-    ensures { IfOk result (λ it. IsBuilt carrier held N.Definition (made N.Definition) index (reverse values.old) it (reverse values.new)) }
+/// `Definition` by its production in this place.
+pub(crate) fn build_definition(
+    _alloc: Global,
+    index: usize,
+    values: &mut Values,
+) -> Result<Value, NoMem>
+    requires { CanMake N.Definition index values.old }
+    ensures { IfOk result (λ it. IsMade N.Definition index values.old it values.new) }
 {
     match index {
         0 => definition(values),
@@ -76,10 +79,9 @@ pub(crate) fn build_definition(_alloc: Global, index: usize, values: &mut List<I
     }
 }
 
-/// The value of `FuelParameter`.
-fn fuel_parameter(values: &mut List<Item<Lexeme, Value>>) -> Result<Value, NoMem>
-    requires { CanBuild carrier held N.FuelParameter (made N.FuelParameter) 0 (reverse values.old) }
-    ensures { IfOk result (λ it. IsBuilt carrier held N.FuelParameter (made N.FuelParameter) 0 (reverse values.old) it (reverse values.new)) }
+fn fuel_parameter(values: &mut Values) -> Result<Value, NoMem>
+    requires { CanMake N.FuelParameter 0 values.old }
+    ensures { IfOk result (λ it. IsMade N.FuelParameter 0 values.old it values.new) }
 {
     let _token = take::token(values);
     let _token = take::token(values);
@@ -89,10 +91,14 @@ fn fuel_parameter(values: &mut List<Item<Lexeme, Value>>) -> Result<Value, NoMem
     Ok(Value::Nothing)
 }
 
-/// The value of `FuelParameter` by its production in this place.
-pub(crate) fn build_fuel_parameter(_alloc: Global, index: usize, values: &mut List<Item<Lexeme, Value>>) -> Result<Value, NoMem>
-    requires { CanBuild carrier held N.FuelParameter (made N.FuelParameter) index (reverse values.old) }
-    ensures { IfOk result (λ it. IsBuilt carrier held N.FuelParameter (made N.FuelParameter) index (reverse values.old) it (reverse values.new)) }
+/// `FuelParameter` by its production in this place.
+pub(crate) fn build_fuel_parameter(
+    _alloc: Global,
+    index: usize,
+    values: &mut Values,
+) -> Result<Value, NoMem>
+    requires { CanMake N.FuelParameter index values.old }
+    ensures { IfOk result (λ it. IsMade N.FuelParameter index values.old it values.new) }
 {
     match index {
         0 => fuel_parameter(values),
@@ -100,10 +106,9 @@ pub(crate) fn build_fuel_parameter(_alloc: Global, index: usize, values: &mut Li
     }
 }
 
-/// The value of `FuelMatch`.
-fn fuel_match(values: &mut List<Item<Lexeme, Value>>) -> Result<Value, NoMem>
-    requires { CanBuild carrier held N.FuelMatch (made N.FuelMatch) 0 (reverse values.old) }
-    ensures { IfOk result (λ it. IsBuilt carrier held N.FuelMatch (made N.FuelMatch) 0 (reverse values.old) it (reverse values.new)) }
+fn fuel_match(values: &mut Values) -> Result<Value, NoMem>
+    requires { CanMake N.FuelMatch 0 values.old }
+    ensures { IfOk result (λ it. IsMade N.FuelMatch 0 values.old it values.new) }
 {
     let _token = take::token(values);
     let _token = take::token(values);
@@ -121,10 +126,14 @@ fn fuel_match(values: &mut List<Item<Lexeme, Value>>) -> Result<Value, NoMem>
     Ok(Value::Nothing)
 }
 
-/// The value of `FuelMatch` by its production in this place.
-pub(crate) fn build_fuel_match(_alloc: Global, index: usize, values: &mut List<Item<Lexeme, Value>>) -> Result<Value, NoMem>
-    requires { CanBuild carrier held N.FuelMatch (made N.FuelMatch) index (reverse values.old) }
-    ensures { IfOk result (λ it. IsBuilt carrier held N.FuelMatch (made N.FuelMatch) index (reverse values.old) it (reverse values.new)) }
+/// `FuelMatch` by its production in this place.
+pub(crate) fn build_fuel_match(
+    _alloc: Global,
+    index: usize,
+    values: &mut Values,
+) -> Result<Value, NoMem>
+    requires { CanMake N.FuelMatch index values.old }
+    ensures { IfOk result (λ it. IsMade N.FuelMatch index values.old it values.new) }
 {
     match index {
         0 => fuel_match(values),
@@ -132,10 +141,9 @@ pub(crate) fn build_fuel_match(_alloc: Global, index: usize, values: &mut List<I
     }
 }
 
-/// The value of `DefinitionName`.
-fn definition_name(values: &mut List<Item<Lexeme, Value>>) -> Result<Value, NoMem>
-    requires { CanBuild carrier held N.DefinitionName (made N.DefinitionName) 0 (reverse values.old) }
-    ensures { IfOk result (λ it. IsBuilt carrier held N.DefinitionName (made N.DefinitionName) 0 (reverse values.old) it (reverse values.new)) }
+fn definition_name(values: &mut Values) -> Result<Value, NoMem>
+    requires { CanMake N.DefinitionName 0 values.old }
+    ensures { IfOk result (λ it. IsMade N.DefinitionName 0 values.old it values.new) }
 {
     let end = take::name_end(values);
     let name = take::token(values);
@@ -144,10 +152,14 @@ fn definition_name(values: &mut List<Item<Lexeme, Value>>) -> Result<Value, NoMe
     Ok(Value::DefinitionName(definition_name(name, end)))
 }
 
-/// The value of `DefinitionName` by its production in this place.
-pub(crate) fn build_definition_name(_alloc: Global, index: usize, values: &mut List<Item<Lexeme, Value>>) -> Result<Value, NoMem>
-    requires { CanBuild carrier held N.DefinitionName (made N.DefinitionName) index (reverse values.old) }
-    ensures { IfOk result (λ it. IsBuilt carrier held N.DefinitionName (made N.DefinitionName) index (reverse values.old) it (reverse values.new)) }
+/// `DefinitionName` by its production in this place.
+pub(crate) fn build_definition_name(
+    _alloc: Global,
+    index: usize,
+    values: &mut Values,
+) -> Result<Value, NoMem>
+    requires { CanMake N.DefinitionName index values.old }
+    ensures { IfOk result (λ it. IsMade N.DefinitionName index values.old it values.new) }
 {
     match index {
         0 => definition_name(values),
@@ -155,28 +167,30 @@ pub(crate) fn build_definition_name(_alloc: Global, index: usize, values: &mut L
     }
 }
 
-/// The value of `NameEnd`, production 0.
-fn first_name_end(_values: &mut List<Item<Lexeme, Value>>) -> Result<Value, NoMem>
-    requires { CanBuild carrier held N.NameEnd (made N.NameEnd) 0 (reverse _values.old) }
-    ensures { IfOk result (λ it. IsBuilt carrier held N.NameEnd (made N.NameEnd) 0 (reverse _values.old) it (reverse _values.new)) }
+fn first_name_end(_values: &mut Values) -> Result<Value, NoMem>
+    requires { CanMake N.NameEnd 0 _values.old }
+    ensures { IfOk result (λ it. IsMade N.NameEnd 0 _values.old it _values.new) }
 {
     Ok(Value::NameEnd(no_end()))
 }
 
-/// The value of `NameEnd`, production 1.
-fn second_name_end(values: &mut List<Item<Lexeme, Value>>) -> Result<Value, NoMem>
-    requires { CanBuild carrier held N.NameEnd (made N.NameEnd) 1 (reverse values.old) }
-    ensures { IfOk result (λ it. IsBuilt carrier held N.NameEnd (made N.NameEnd) 1 (reverse values.old) it (reverse values.new)) }
+fn second_name_end(values: &mut Values) -> Result<Value, NoMem>
+    requires { CanMake N.NameEnd 1 values.old }
+    ensures { IfOk result (λ it. IsMade N.NameEnd 1 values.old it values.new) }
 {
     let part = take::name_end(values);
     let _token = take::token(values);
     Ok(Value::NameEnd(part))
 }
 
-/// The value of `NameEnd` by its production in this place.
-pub(crate) fn build_name_end(_alloc: Global, index: usize, values: &mut List<Item<Lexeme, Value>>) -> Result<Value, NoMem>
-    requires { CanBuild carrier held N.NameEnd (made N.NameEnd) index (reverse values.old) }
-    ensures { IfOk result (λ it. IsBuilt carrier held N.NameEnd (made N.NameEnd) index (reverse values.old) it (reverse values.new)) }
+/// `NameEnd` by its production in this place.
+pub(crate) fn build_name_end(
+    _alloc: Global,
+    index: usize,
+    values: &mut Values,
+) -> Result<Value, NoMem>
+    requires { CanMake N.NameEnd index values.old }
+    ensures { IfOk result (λ it. IsMade N.NameEnd index values.old it values.new) }
 {
     match index {
         0 => first_name_end(values),
@@ -185,29 +199,31 @@ pub(crate) fn build_name_end(_alloc: Global, index: usize, values: &mut List<Ite
     }
 }
 
-/// The value of `NamePart`, production 0.
-fn first_name_part(values: &mut List<Item<Lexeme, Value>>) -> Result<Value, NoMem>
-    requires { CanBuild carrier held N.NamePart (made N.NamePart) 0 (reverse values.old) }
-    ensures { IfOk result (λ it. IsBuilt carrier held N.NamePart (made N.NamePart) 0 (reverse values.old) it (reverse values.new)) }
+fn first_name_part(values: &mut Values) -> Result<Value, NoMem>
+    requires { CanMake N.NamePart 0 values.old }
+    ensures { IfOk result (λ it. IsMade N.NamePart 0 values.old it values.new) }
 {
     let back = take::back_end(values);
     let turn = take::token(values);
     Ok(Value::NameEnd(loop_end(turn, back)))
 }
 
-/// The value of `NamePart`, production 1.
-fn second_name_part(values: &mut List<Item<Lexeme, Value>>) -> Result<Value, NoMem>
-    requires { CanBuild carrier held N.NamePart (made N.NamePart) 1 (reverse values.old) }
-    ensures { IfOk result (λ it. IsBuilt carrier held N.NamePart (made N.NamePart) 1 (reverse values.old) it (reverse values.new)) }
+fn second_name_part(values: &mut Values) -> Result<Value, NoMem>
+    requires { CanMake N.NamePart 1 values.old }
+    ensures { IfOk result (λ it. IsMade N.NamePart 1 values.old it values.new) }
 {
     let back = take::token(values);
     Ok(Value::NameEnd(back_end(back)))
 }
 
-/// The value of `NamePart` by its production in this place.
-pub(crate) fn build_name_part(_alloc: Global, index: usize, values: &mut List<Item<Lexeme, Value>>) -> Result<Value, NoMem>
-    requires { CanBuild carrier held N.NamePart (made N.NamePart) index (reverse values.old) }
-    ensures { IfOk result (λ it. IsBuilt carrier held N.NamePart (made N.NamePart) index (reverse values.old) it (reverse values.new)) }
+/// `NamePart` by its production in this place.
+pub(crate) fn build_name_part(
+    _alloc: Global,
+    index: usize,
+    values: &mut Values,
+) -> Result<Value, NoMem>
+    requires { CanMake N.NamePart index values.old }
+    ensures { IfOk result (λ it. IsMade N.NamePart index values.old it values.new) }
 {
     match index {
         0 => first_name_part(values),
@@ -216,28 +232,30 @@ pub(crate) fn build_name_part(_alloc: Global, index: usize, values: &mut List<It
     }
 }
 
-/// The value of `BackEnd`, production 0.
-fn first_back_end(_values: &mut List<Item<Lexeme, Value>>) -> Result<Value, NoMem>
-    requires { CanBuild carrier held N.BackEnd (made N.BackEnd) 0 (reverse _values.old) }
-    ensures { IfOk result (λ it. IsBuilt carrier held N.BackEnd (made N.BackEnd) 0 (reverse _values.old) it (reverse _values.new)) }
+fn first_back_end(_values: &mut Values) -> Result<Value, NoMem>
+    requires { CanMake N.BackEnd 0 _values.old }
+    ensures { IfOk result (λ it. IsMade N.BackEnd 0 _values.old it _values.new) }
 {
     Ok(Value::BackEnd(no_back()))
 }
 
-/// The value of `BackEnd`, production 1.
-fn second_back_end(values: &mut List<Item<Lexeme, Value>>) -> Result<Value, NoMem>
-    requires { CanBuild carrier held N.BackEnd (made N.BackEnd) 1 (reverse values.old) }
-    ensures { IfOk result (λ it. IsBuilt carrier held N.BackEnd (made N.BackEnd) 1 (reverse values.old) it (reverse values.new)) }
+fn second_back_end(values: &mut Values) -> Result<Value, NoMem>
+    requires { CanMake N.BackEnd 1 values.old }
+    ensures { IfOk result (λ it. IsMade N.BackEnd 1 values.old it values.new) }
 {
     let back = take::token(values);
     let _token = take::token(values);
     Ok(Value::BackEnd(some_back(back)))
 }
 
-/// The value of `BackEnd` by its production in this place.
-pub(crate) fn build_back_end(_alloc: Global, index: usize, values: &mut List<Item<Lexeme, Value>>) -> Result<Value, NoMem>
-    requires { CanBuild carrier held N.BackEnd (made N.BackEnd) index (reverse values.old) }
-    ensures { IfOk result (λ it. IsBuilt carrier held N.BackEnd (made N.BackEnd) index (reverse values.old) it (reverse values.new)) }
+/// `BackEnd` by its production in this place.
+pub(crate) fn build_back_end(
+    _alloc: Global,
+    index: usize,
+    values: &mut Values,
+) -> Result<Value, NoMem>
+    requires { CanMake N.BackEnd index values.old }
+    ensures { IfOk result (λ it. IsMade N.BackEnd index values.old it values.new) }
 {
     match index {
         0 => first_back_end(values),
@@ -246,18 +264,16 @@ pub(crate) fn build_back_end(_alloc: Global, index: usize, values: &mut List<Ite
     }
 }
 
-/// The value of `ImplicitParameters`, production 0.
-fn first_implicit_parameters(alloc: Global, _values: &mut List<Item<Lexeme, Value>>) -> Result<Value, NoMem>
-    requires { CanBuild carrier held N.ImplicitParameters (made N.ImplicitParameters) 0 (reverse _values.old) }
-    ensures { IfOk result (λ it. IsBuilt carrier held N.ImplicitParameters (made N.ImplicitParameters) 0 (reverse _values.old) it (reverse _values.new)) }
+fn first_implicit_parameters(alloc: Global, _values: &mut Values) -> Result<Value, NoMem>
+    requires { CanMake N.ImplicitParameters 0 _values.old }
+    ensures { IfOk result (λ it. IsMade N.ImplicitParameters 0 _values.old it _values.new) }
 {
     Ok(Value::Names(FrontList::new(alloc)))
 }
 
-/// The value of `ImplicitParameters`, production 1.
-fn second_implicit_parameters(values: &mut List<Item<Lexeme, Value>>) -> Result<Value, NoMem>
-    requires { CanBuild carrier held N.ImplicitParameters (made N.ImplicitParameters) 1 (reverse values.old) }
-    ensures { IfOk result (λ it. IsBuilt carrier held N.ImplicitParameters (made N.ImplicitParameters) 1 (reverse values.old) it (reverse values.new)) }
+fn second_implicit_parameters(values: &mut Values) -> Result<Value, NoMem>
+    requires { CanMake N.ImplicitParameters 1 values.old }
+    ensures { IfOk result (λ it. IsMade N.ImplicitParameters 1 values.old it values.new) }
 {
     let more = take::names(values);
     let _token = take::token(values);
@@ -269,10 +285,14 @@ fn second_implicit_parameters(values: &mut List<Item<Lexeme, Value>>) -> Result<
     Ok(Value::Names(made))
 }
 
-/// The value of `ImplicitParameters` by its production in this place.
-pub(crate) fn build_implicit_parameters(alloc: Global, index: usize, values: &mut List<Item<Lexeme, Value>>) -> Result<Value, NoMem>
-    requires { CanBuild carrier held N.ImplicitParameters (made N.ImplicitParameters) index (reverse values.old) }
-    ensures { IfOk result (λ it. IsBuilt carrier held N.ImplicitParameters (made N.ImplicitParameters) index (reverse values.old) it (reverse values.new)) }
+/// `ImplicitParameters` by its production in this place.
+pub(crate) fn build_implicit_parameters(
+    alloc: Global,
+    index: usize,
+    values: &mut Values,
+) -> Result<Value, NoMem>
+    requires { CanMake N.ImplicitParameters index values.old }
+    ensures { IfOk result (λ it. IsMade N.ImplicitParameters index values.old it values.new) }
 {
     match index {
         0 => first_implicit_parameters(alloc, values),
@@ -281,18 +301,16 @@ pub(crate) fn build_implicit_parameters(alloc: Global, index: usize, values: &mu
     }
 }
 
-/// The value of `Parameters`, production 0.
-fn first_parameters(alloc: Global, _values: &mut List<Item<Lexeme, Value>>) -> Result<Value, NoMem>
-    requires { CanBuild carrier held N.Parameters (made N.Parameters) 0 (reverse _values.old) }
-    ensures { IfOk result (λ it. IsBuilt carrier held N.Parameters (made N.Parameters) 0 (reverse _values.old) it (reverse _values.new)) }
+fn first_parameters(alloc: Global, _values: &mut Values) -> Result<Value, NoMem>
+    requires { CanMake N.Parameters 0 _values.old }
+    ensures { IfOk result (λ it. IsMade N.Parameters 0 _values.old it _values.new) }
 {
     Ok(Value::Fields(FrontList::new(alloc)))
 }
 
-/// The value of `Parameters`, production 1.
-fn second_parameters(values: &mut List<Item<Lexeme, Value>>) -> Result<Value, NoMem>
-    requires { CanBuild carrier held N.Parameters (made N.Parameters) 1 (reverse values.old) }
-    ensures { IfOk result (λ it. IsBuilt carrier held N.Parameters (made N.Parameters) 1 (reverse values.old) it (reverse values.new)) }
+fn second_parameters(values: &mut Values) -> Result<Value, NoMem>
+    requires { CanMake N.Parameters 1 values.old }
+    ensures { IfOk result (λ it. IsMade N.Parameters 1 values.old it values.new) }
 {
     let more = take::fields(values);
     let _token = take::token(values);
@@ -304,10 +322,14 @@ fn second_parameters(values: &mut List<Item<Lexeme, Value>>) -> Result<Value, No
     Ok(Value::Fields(made))
 }
 
-/// The value of `Parameters` by its production in this place.
-pub(crate) fn build_parameters(alloc: Global, index: usize, values: &mut List<Item<Lexeme, Value>>) -> Result<Value, NoMem>
-    requires { CanBuild carrier held N.Parameters (made N.Parameters) index (reverse values.old) }
-    ensures { IfOk result (λ it. IsBuilt carrier held N.Parameters (made N.Parameters) index (reverse values.old) it (reverse values.new)) }
+/// `Parameters` by its production in this place.
+pub(crate) fn build_parameters(
+    alloc: Global,
+    index: usize,
+    values: &mut Values,
+) -> Result<Value, NoMem>
+    requires { CanMake N.Parameters index values.old }
+    ensures { IfOk result (λ it. IsMade N.Parameters index values.old it values.new) }
 {
     match index {
         0 => first_parameters(alloc, values),

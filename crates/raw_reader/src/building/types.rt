@@ -1,43 +1,40 @@
 //! Types. Written by tools/text_ways.py.
 
-ghost use Rattle.std.specs.Prelude.{◌≡◌, reverse, IfOk};
-ghost use Rattle.table_reader.specs.Building.{CanBuild, IsBuilt};
+ghost use Rattle.std.specs.Prelude.{IfOk};
 ghost use Rattle.text_table.specs.declared.part.Part.TheVariants as N;
-ghost use Rattle.raw_reader.specs.Carriers.{carrier, held};
-ghost use Rattle.raw_reader.specs.Makes.{made};
+ghost use Rattle.raw_reader.specs.Makes.{CanMake, IsMade};
 
-use crate::front_list::FrontList;
-use crate::taking as take;
-use crate::value::Value;
-use crate::ways::{after_name, bool_type, exit_type, int_type, more_factors, named_alone, product_type, type_arguments, unit_type};
-use aen_base::{List, NoMem};
+use crate::ways::{
+    after_name, bool_type, exit_type, int_type, more_factors, named_alone, product_type,
+    type_arguments, unit_type,
+};
+use aen_base::NoMem;
+use raw_values::front_list::FrontList;
+use raw_values::taking as take;
+use raw_values::value::{Value, Values};
 use std::alloc::Global;
-use table_reader::Item;
-use text_table::Lexeme;
 
-/// The value of `Type`, production 0.
-fn first_type(values: &mut List<Item<Lexeme, Value>>) -> Result<Value, NoMem>
-    requires { CanBuild carrier held N.Type (made N.Type) 0 (reverse values.old) }
-    ensures { IfOk result (λ it. IsBuilt carrier held N.Type (made N.Type) 0 (reverse values.old) it (reverse values.new)) }
+fn first_type(values: &mut Values) -> Result<Value, NoMem>
+    requires { CanMake N.Type 0 values.old }
+    ensures { IfOk result (λ it. IsMade N.Type 0 values.old it values.new) }
 {
     let ty = take::ty(values);
     Ok(Value::Type(ty))
 }
 
-/// The value of `Type`, production 1.
-fn second_type(alloc: Global, values: &mut List<Item<Lexeme, Value>>) -> Result<Value, NoMem>
-    requires { CanBuild carrier held N.Type (made N.Type) 1 (reverse values.old) }
-    ensures { IfOk result (λ it. IsBuilt carrier held N.Type (made N.Type) 1 (reverse values.old) it (reverse values.new)) }
+fn second_type(alloc: Global, values: &mut Values) -> Result<Value, NoMem>
+    requires { CanMake N.Type 1 values.old }
+    ensures { IfOk result (λ it. IsMade N.Type 1 values.old it values.new) }
 {
     let name = take::token(values);
     let made = named_alone(alloc, name)?;
     Ok(Value::Type(made))
 }
 
-/// The value of `Type` by its production in this place.
-pub(crate) fn build_type(alloc: Global, index: usize, values: &mut List<Item<Lexeme, Value>>) -> Result<Value, NoMem>
-    requires { CanBuild carrier held N.Type (made N.Type) index (reverse values.old) }
-    ensures { IfOk result (λ it. IsBuilt carrier held N.Type (made N.Type) index (reverse values.old) it (reverse values.new)) }
+/// `Type` by its production in this place.
+pub(crate) fn build_type(alloc: Global, index: usize, values: &mut Values) -> Result<Value, NoMem>
+    requires { CanMake N.Type index values.old }
+    ensures { IfOk result (λ it. IsMade N.Type index values.old it values.new) }
 {
     match index {
         0 => first_type(values),
@@ -46,47 +43,47 @@ pub(crate) fn build_type(alloc: Global, index: usize, values: &mut List<Item<Lex
     }
 }
 
-/// The value of `OtherType`, production 0.
-fn first_other_type(values: &mut List<Item<Lexeme, Value>>) -> Result<Value, NoMem>
-    requires { CanBuild carrier held N.OtherType (made N.OtherType) 0 (reverse values.old) }
-    ensures { IfOk result (λ it. IsBuilt carrier held N.OtherType (made N.OtherType) 0 (reverse values.old) it (reverse values.new)) }
+fn first_other_type(values: &mut Values) -> Result<Value, NoMem>
+    requires { CanMake N.OtherType 0 values.old }
+    ensures { IfOk result (λ it. IsMade N.OtherType 0 values.old it values.new) }
 {
     let word = take::token(values);
     Ok(Value::Type(int_type(word)))
 }
 
-/// The value of `OtherType`, production 1.
-fn second_other_type(values: &mut List<Item<Lexeme, Value>>) -> Result<Value, NoMem>
-    requires { CanBuild carrier held N.OtherType (made N.OtherType) 1 (reverse values.old) }
-    ensures { IfOk result (λ it. IsBuilt carrier held N.OtherType (made N.OtherType) 1 (reverse values.old) it (reverse values.new)) }
+fn second_other_type(values: &mut Values) -> Result<Value, NoMem>
+    requires { CanMake N.OtherType 1 values.old }
+    ensures { IfOk result (λ it. IsMade N.OtherType 1 values.old it values.new) }
 {
     let _token = take::token(values);
     Ok(Value::Type(bool_type()))
 }
 
-/// The value of `OtherType`, production 2.
-fn third_other_type(values: &mut List<Item<Lexeme, Value>>) -> Result<Value, NoMem>
-    requires { CanBuild carrier held N.OtherType (made N.OtherType) 2 (reverse values.old) }
-    ensures { IfOk result (λ it. IsBuilt carrier held N.OtherType (made N.OtherType) 2 (reverse values.old) it (reverse values.new)) }
+fn third_other_type(values: &mut Values) -> Result<Value, NoMem>
+    requires { CanMake N.OtherType 2 values.old }
+    ensures { IfOk result (λ it. IsMade N.OtherType 2 values.old it values.new) }
 {
     let _token = take::token(values);
     Ok(Value::Type(unit_type()))
 }
 
-/// The value of `OtherType`, production 3.
-fn fourth_other_type(values: &mut List<Item<Lexeme, Value>>) -> Result<Value, NoMem>
-    requires { CanBuild carrier held N.OtherType (made N.OtherType) 3 (reverse values.old) }
-    ensures { IfOk result (λ it. IsBuilt carrier held N.OtherType (made N.OtherType) 3 (reverse values.old) it (reverse values.new)) }
+fn fourth_other_type(values: &mut Values) -> Result<Value, NoMem>
+    requires { CanMake N.OtherType 3 values.old }
+    ensures { IfOk result (λ it. IsMade N.OtherType 3 values.old it values.new) }
 {
     let ty = take::ty(values);
     let _token = take::token(values);
     Ok(Value::Type(ty))
 }
 
-/// The value of `OtherType` by its production in this place.
-pub(crate) fn build_other_type(_alloc: Global, index: usize, values: &mut List<Item<Lexeme, Value>>) -> Result<Value, NoMem>
-    requires { CanBuild carrier held N.OtherType (made N.OtherType) index (reverse values.old) }
-    ensures { IfOk result (λ it. IsBuilt carrier held N.OtherType (made N.OtherType) index (reverse values.old) it (reverse values.new)) }
+/// `OtherType` by its production in this place.
+pub(crate) fn build_other_type(
+    _alloc: Global,
+    index: usize,
+    values: &mut Values,
+) -> Result<Value, NoMem>
+    requires { CanMake N.OtherType index values.old }
+    ensures { IfOk result (λ it. IsMade N.OtherType index values.old it values.new) }
 {
     match index {
         0 => first_other_type(values),
@@ -97,10 +94,9 @@ pub(crate) fn build_other_type(_alloc: Global, index: usize, values: &mut List<I
     }
 }
 
-/// The value of `TypeInBrackets`, production 0.
-fn first_type_in_brackets(values: &mut List<Item<Lexeme, Value>>) -> Result<Value, NoMem>
-    requires { CanBuild carrier held N.TypeInBrackets (made N.TypeInBrackets) 0 (reverse values.old) }
-    ensures { IfOk result (λ it. IsBuilt carrier held N.TypeInBrackets (made N.TypeInBrackets) 0 (reverse values.old) it (reverse values.new)) }
+fn first_type_in_brackets(values: &mut Values) -> Result<Value, NoMem>
+    requires { CanMake N.TypeInBrackets 0 values.old }
+    ensures { IfOk result (λ it. IsMade N.TypeInBrackets 0 values.old it values.new) }
 {
     let more = take::types(values);
     let second = take::ty(values);
@@ -110,10 +106,9 @@ fn first_type_in_brackets(values: &mut List<Item<Lexeme, Value>>) -> Result<Valu
     Ok(Value::Type(made))
 }
 
-/// The value of `TypeInBrackets`, production 1.
-fn second_type_in_brackets(alloc: Global, values: &mut List<Item<Lexeme, Value>>) -> Result<Value, NoMem>
-    requires { CanBuild carrier held N.TypeInBrackets (made N.TypeInBrackets) 1 (reverse values.old) }
-    ensures { IfOk result (λ it. IsBuilt carrier held N.TypeInBrackets (made N.TypeInBrackets) 1 (reverse values.old) it (reverse values.new)) }
+fn second_type_in_brackets(alloc: Global, values: &mut Values) -> Result<Value, NoMem>
+    requires { CanMake N.TypeInBrackets 1 values.old }
+    ensures { IfOk result (λ it. IsMade N.TypeInBrackets 1 values.old it values.new) }
 {
     let _token = take::token(values);
     let returned = take::ty(values);
@@ -123,10 +118,9 @@ fn second_type_in_brackets(alloc: Global, values: &mut List<Item<Lexeme, Value>>
     Ok(Value::Type(made))
 }
 
-/// The value of `TypeInBrackets`, production 2.
-fn third_type_in_brackets(alloc: Global, values: &mut List<Item<Lexeme, Value>>) -> Result<Value, NoMem>
-    requires { CanBuild carrier held N.TypeInBrackets (made N.TypeInBrackets) 2 (reverse values.old) }
-    ensures { IfOk result (λ it. IsBuilt carrier held N.TypeInBrackets (made N.TypeInBrackets) 2 (reverse values.old) it (reverse values.new)) }
+fn third_type_in_brackets(alloc: Global, values: &mut Values) -> Result<Value, NoMem>
+    requires { CanMake N.TypeInBrackets 2 values.old }
+    ensures { IfOk result (λ it. IsMade N.TypeInBrackets 2 values.old it values.new) }
 {
     let after = take::after_type_name(values);
     let name = take::token(values);
@@ -134,10 +128,14 @@ fn third_type_in_brackets(alloc: Global, values: &mut List<Item<Lexeme, Value>>)
     Ok(Value::Type(made))
 }
 
-/// The value of `TypeInBrackets` by its production in this place.
-pub(crate) fn build_type_in_brackets(alloc: Global, index: usize, values: &mut List<Item<Lexeme, Value>>) -> Result<Value, NoMem>
-    requires { CanBuild carrier held N.TypeInBrackets (made N.TypeInBrackets) index (reverse values.old) }
-    ensures { IfOk result (λ it. IsBuilt carrier held N.TypeInBrackets (made N.TypeInBrackets) index (reverse values.old) it (reverse values.new)) }
+/// `TypeInBrackets` by its production in this place.
+pub(crate) fn build_type_in_brackets(
+    alloc: Global,
+    index: usize,
+    values: &mut Values,
+) -> Result<Value, NoMem>
+    requires { CanMake N.TypeInBrackets index values.old }
+    ensures { IfOk result (λ it. IsMade N.TypeInBrackets index values.old it values.new) }
 {
     match index {
         0 => first_type_in_brackets(values),
@@ -147,10 +145,9 @@ pub(crate) fn build_type_in_brackets(alloc: Global, index: usize, values: &mut L
     }
 }
 
-/// The value of `AfterTypeName`, production 0.
-fn first_after_type_name(values: &mut List<Item<Lexeme, Value>>) -> Result<Value, NoMem>
-    requires { CanBuild carrier held N.AfterTypeName (made N.AfterTypeName) 0 (reverse values.old) }
-    ensures { IfOk result (λ it. IsBuilt carrier held N.AfterTypeName (made N.AfterTypeName) 0 (reverse values.old) it (reverse values.new)) }
+fn first_after_type_name(values: &mut Values) -> Result<Value, NoMem>
+    requires { CanMake N.AfterTypeName 0 values.old }
+    ensures { IfOk result (λ it. IsMade N.AfterTypeName 0 values.old it values.new) }
 {
     let more = take::types(values);
     let ty = take::ty(values);
@@ -158,10 +155,9 @@ fn first_after_type_name(values: &mut List<Item<Lexeme, Value>>) -> Result<Value
     Ok(Value::AfterTypeName(type_arguments(made)))
 }
 
-/// The value of `AfterTypeName`, production 1.
-fn second_after_type_name(values: &mut List<Item<Lexeme, Value>>) -> Result<Value, NoMem>
-    requires { CanBuild carrier held N.AfterTypeName (made N.AfterTypeName) 1 (reverse values.old) }
-    ensures { IfOk result (λ it. IsBuilt carrier held N.AfterTypeName (made N.AfterTypeName) 1 (reverse values.old) it (reverse values.new)) }
+fn second_after_type_name(values: &mut Values) -> Result<Value, NoMem>
+    requires { CanMake N.AfterTypeName 1 values.old }
+    ensures { IfOk result (λ it. IsMade N.AfterTypeName 1 values.old it values.new) }
 {
     let more = take::types(values);
     let ty = take::ty(values);
@@ -170,10 +166,14 @@ fn second_after_type_name(values: &mut List<Item<Lexeme, Value>>) -> Result<Valu
     Ok(Value::AfterTypeName(more_factors(made)))
 }
 
-/// The value of `AfterTypeName` by its production in this place.
-pub(crate) fn build_after_type_name(_alloc: Global, index: usize, values: &mut List<Item<Lexeme, Value>>) -> Result<Value, NoMem>
-    requires { CanBuild carrier held N.AfterTypeName (made N.AfterTypeName) index (reverse values.old) }
-    ensures { IfOk result (λ it. IsBuilt carrier held N.AfterTypeName (made N.AfterTypeName) index (reverse values.old) it (reverse values.new)) }
+/// `AfterTypeName` by its production in this place.
+pub(crate) fn build_after_type_name(
+    _alloc: Global,
+    index: usize,
+    values: &mut Values,
+) -> Result<Value, NoMem>
+    requires { CanMake N.AfterTypeName index values.old }
+    ensures { IfOk result (λ it. IsMade N.AfterTypeName index values.old it values.new) }
 {
     match index {
         0 => first_after_type_name(values),
@@ -182,19 +182,17 @@ pub(crate) fn build_after_type_name(_alloc: Global, index: usize, values: &mut L
     }
 }
 
-/// The value of `TypeArguments`, production 0.
-fn first_type_arguments(alloc: Global, values: &mut List<Item<Lexeme, Value>>) -> Result<Value, NoMem>
-    requires { CanBuild carrier held N.TypeArguments (made N.TypeArguments) 0 (reverse values.old) }
-    ensures { IfOk result (λ it. IsBuilt carrier held N.TypeArguments (made N.TypeArguments) 0 (reverse values.old) it (reverse values.new)) }
+fn first_type_arguments(alloc: Global, values: &mut Values) -> Result<Value, NoMem>
+    requires { CanMake N.TypeArguments 0 values.old }
+    ensures { IfOk result (λ it. IsMade N.TypeArguments 0 values.old it values.new) }
 {
     let _token = take::token(values);
     Ok(Value::Types(FrontList::new(alloc)))
 }
 
-/// The value of `TypeArguments`, production 1.
-fn second_type_arguments(values: &mut List<Item<Lexeme, Value>>) -> Result<Value, NoMem>
-    requires { CanBuild carrier held N.TypeArguments (made N.TypeArguments) 1 (reverse values.old) }
-    ensures { IfOk result (λ it. IsBuilt carrier held N.TypeArguments (made N.TypeArguments) 1 (reverse values.old) it (reverse values.new)) }
+fn second_type_arguments(values: &mut Values) -> Result<Value, NoMem>
+    requires { CanMake N.TypeArguments 1 values.old }
+    ensures { IfOk result (λ it. IsMade N.TypeArguments 1 values.old it values.new) }
 {
     let more = take::types(values);
     let ty = take::ty(values);
@@ -202,10 +200,14 @@ fn second_type_arguments(values: &mut List<Item<Lexeme, Value>>) -> Result<Value
     Ok(Value::Types(made))
 }
 
-/// The value of `TypeArguments` by its production in this place.
-pub(crate) fn build_type_arguments(alloc: Global, index: usize, values: &mut List<Item<Lexeme, Value>>) -> Result<Value, NoMem>
-    requires { CanBuild carrier held N.TypeArguments (made N.TypeArguments) index (reverse values.old) }
-    ensures { IfOk result (λ it. IsBuilt carrier held N.TypeArguments (made N.TypeArguments) index (reverse values.old) it (reverse values.new)) }
+/// `TypeArguments` by its production in this place.
+pub(crate) fn build_type_arguments(
+    alloc: Global,
+    index: usize,
+    values: &mut Values,
+) -> Result<Value, NoMem>
+    requires { CanMake N.TypeArguments index values.old }
+    ensures { IfOk result (λ it. IsMade N.TypeArguments index values.old it values.new) }
 {
     match index {
         0 => first_type_arguments(alloc, values),
@@ -214,19 +216,17 @@ pub(crate) fn build_type_arguments(alloc: Global, index: usize, values: &mut Lis
     }
 }
 
-/// The value of `Factors`, production 0.
-fn first_factors(alloc: Global, values: &mut List<Item<Lexeme, Value>>) -> Result<Value, NoMem>
-    requires { CanBuild carrier held N.Factors (made N.Factors) 0 (reverse values.old) }
-    ensures { IfOk result (λ it. IsBuilt carrier held N.Factors (made N.Factors) 0 (reverse values.old) it (reverse values.new)) }
+fn first_factors(alloc: Global, values: &mut Values) -> Result<Value, NoMem>
+    requires { CanMake N.Factors 0 values.old }
+    ensures { IfOk result (λ it. IsMade N.Factors 0 values.old it values.new) }
 {
     let _token = take::token(values);
     Ok(Value::Types(FrontList::new(alloc)))
 }
 
-/// The value of `Factors`, production 1.
-fn second_factors(values: &mut List<Item<Lexeme, Value>>) -> Result<Value, NoMem>
-    requires { CanBuild carrier held N.Factors (made N.Factors) 1 (reverse values.old) }
-    ensures { IfOk result (λ it. IsBuilt carrier held N.Factors (made N.Factors) 1 (reverse values.old) it (reverse values.new)) }
+fn second_factors(values: &mut Values) -> Result<Value, NoMem>
+    requires { CanMake N.Factors 1 values.old }
+    ensures { IfOk result (λ it. IsMade N.Factors 1 values.old it values.new) }
 {
     let more = take::types(values);
     let ty = take::ty(values);
@@ -235,10 +235,14 @@ fn second_factors(values: &mut List<Item<Lexeme, Value>>) -> Result<Value, NoMem
     Ok(Value::Types(made))
 }
 
-/// The value of `Factors` by its production in this place.
-pub(crate) fn build_factors(alloc: Global, index: usize, values: &mut List<Item<Lexeme, Value>>) -> Result<Value, NoMem>
-    requires { CanBuild carrier held N.Factors (made N.Factors) index (reverse values.old) }
-    ensures { IfOk result (λ it. IsBuilt carrier held N.Factors (made N.Factors) index (reverse values.old) it (reverse values.new)) }
+/// `Factors` by its production in this place.
+pub(crate) fn build_factors(
+    alloc: Global,
+    index: usize,
+    values: &mut Values,
+) -> Result<Value, NoMem>
+    requires { CanMake N.Factors index values.old }
+    ensures { IfOk result (λ it. IsMade N.Factors index values.old it values.new) }
 {
     match index {
         0 => first_factors(alloc, values),

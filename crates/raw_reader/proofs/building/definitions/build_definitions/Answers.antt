@@ -3,7 +3,7 @@ use Rattle.std.proofs.Common.{refl, reverse}
 use Rattle.table_reader.specs.Building.{can_build_at, built_at}
 use Rattle.aen_base.specs.declared.memory.NoMem.{NoMem}
 use Rattle.text_table.specs.declared.part.Part.TheVariants as N
-use Rattle.raw_reader.specs.Carriers.{carrier, held}
+use Rattle.raw_values.specs.Carriers.{carrier, held}
 use Rattle.raw_reader.specs.Makes.{made}
 use Rattle.raw_reader.proofs.building.definitions.build_definitions.Goals as goal
 

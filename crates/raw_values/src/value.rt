@@ -2,10 +2,13 @@
 
 use crate::front_list::FrontList;
 use crate::rests::{AfterConstructor, AfterName, AfterTypeName, Bound, NameEnd, VariantRest};
+use aen_base::List;
 use raw_ast::{
     Computation, Constructor, Declaration, Definition, DefinitionName, Operation, Pattern, RawAtom,
     RawCode, RawText, RawType, Spelling, Variant,
 };
+use table_reader::Item;
+use text_table::Lexeme;
 
 /// What a part is read as.
 #[derive(Drop)]
@@ -39,3 +42,6 @@ pub enum Value {
     Bound(Bound),
     Arms(FrontList<(Pattern, RawCode)>),
 }
+
+/// The values of symbols that were read, the newest last.
+pub type Values = List<Item<Lexeme, Value>>;

@@ -1,5 +1,5 @@
 -- What each part of the grammar is read as. Written by tools/text_ways.py.
-use Rattle.std.specs.Prelude.{List, [], ◌∷◌, Option}
+use Rattle.std.specs.Prelude.{ℕ, List, [], ◌∷◌, reverse, Option}
 use Rattle.text_table.specs.declared.part.Part.{Part}
 use Rattle.text_table.specs.declared.part.Part.TheVariants as N
 use Rattle.raw_ast.specs.declared.spelling.Spelling.{Spelling}
@@ -15,14 +15,14 @@ use Rattle.raw_ast.specs.declared.declarations.RawText.{RawText}
 use Rattle.raw_ast.specs.Types.{RawType}
 use Rattle.raw_ast.specs.Atoms.{RawAtom}
 use Rattle.raw_ast.specs.Code.{RawCode}
-use Rattle.raw_reader.specs.declared.rests.AfterTypeName.{AfterTypeName}
-use Rattle.raw_reader.specs.declared.rests.VariantRest.{VariantRest}
-use Rattle.raw_reader.specs.declared.rests.AfterName.{AfterName}
-use Rattle.raw_reader.specs.declared.rests.NameEnd.{NameEnd}
-use Rattle.raw_reader.specs.declared.rests.AfterConstructor.{AfterConstructor}
-use Rattle.raw_reader.specs.declared.rests.Bound.{Bound}
-use Rattle.raw_reader.specs.declared.value.Value.{Value}
-use Rattle.raw_reader.specs.declared.value.Value.TheVariants as V
+use Rattle.raw_values.specs.declared.rests.AfterTypeName.{AfterTypeName}
+use Rattle.raw_values.specs.declared.rests.VariantRest.{VariantRest}
+use Rattle.raw_values.specs.declared.rests.AfterName.{AfterName}
+use Rattle.raw_values.specs.declared.rests.NameEnd.{NameEnd}
+use Rattle.raw_values.specs.declared.rests.AfterConstructor.{AfterConstructor}
+use Rattle.raw_values.specs.declared.rests.Bound.{Bound}
+use Rattle.raw_values.specs.declared.value.Value.{Value}
+use Rattle.raw_values.specs.declared.value.Value.TheVariants as V
 
 abbrev pub carrier : Part → Type 0
 carrier N.Text = RawText

@@ -4,8 +4,8 @@ ghost use Rattle.std.specs.Prelude.{◌≡◌, ◌∷◌, List, Option, reverse}
 ghost use Rattle.table_reader.specs.declared.item.Item.{Item};
 ghost use Rattle.table_reader.specs.declared.item.Item.TheVariants as I;
 ghost use Rattle.text_table.specs.declared.lexeme.Lexeme.{Lexeme};
-ghost use Rattle.raw_reader.specs.declared.value.Value.{Value};
-ghost use Rattle.raw_reader.specs.declared.value.Value.TheVariants as V;
+ghost use Rattle.raw_values.specs.declared.value.Value.{Value};
+ghost use Rattle.raw_values.specs.declared.value.Value.TheVariants as V;
 ghost use Rattle.raw_ast.specs.declared.spelling.Spelling.{Spelling};
 ghost use Rattle.raw_ast.specs.declared.names.DefinitionName.{DefinitionName};
 ghost use Rattle.raw_ast.specs.declared.names.Constructor.{Constructor};
@@ -19,26 +19,25 @@ ghost use Rattle.raw_ast.specs.declared.declarations.RawText.{RawText};
 ghost use Rattle.raw_ast.specs.Types.{RawType};
 ghost use Rattle.raw_ast.specs.Atoms.{RawAtom};
 ghost use Rattle.raw_ast.specs.Code.{RawCode};
-ghost use Rattle.raw_reader.specs.declared.rests.AfterTypeName.{AfterTypeName};
-ghost use Rattle.raw_reader.specs.declared.rests.VariantRest.{VariantRest};
-ghost use Rattle.raw_reader.specs.declared.rests.AfterName.{AfterName};
-ghost use Rattle.raw_reader.specs.declared.rests.NameEnd.{NameEnd};
-ghost use Rattle.raw_reader.specs.declared.rests.AfterConstructor.{AfterConstructor};
-ghost use Rattle.raw_reader.specs.declared.rests.Bound.{Bound};
+ghost use Rattle.raw_values.specs.declared.rests.AfterTypeName.{AfterTypeName};
+ghost use Rattle.raw_values.specs.declared.rests.VariantRest.{VariantRest};
+ghost use Rattle.raw_values.specs.declared.rests.AfterName.{AfterName};
+ghost use Rattle.raw_values.specs.declared.rests.NameEnd.{NameEnd};
+ghost use Rattle.raw_values.specs.declared.rests.AfterConstructor.{AfterConstructor};
+ghost use Rattle.raw_values.specs.declared.rests.Bound.{Bound};
 
 use crate::front_list::FrontList;
 use crate::rests::{AfterConstructor, AfterName, AfterTypeName, Bound, NameEnd, VariantRest};
+use crate::value::{Value, Values};
 use raw_ast::{
     Computation, Constructor, Declaration, Definition, DefinitionName, Operation, Pattern, RawAtom,
     RawCode, RawText, RawType, Spelling, Variant,
 };
-use crate::value::Value;
-use aen_base::List;
 use table_reader::Item;
 use text_table::Lexeme;
 
-/// Takes a token off.
-pub(crate) fn token(values: &mut List<Item<Lexeme, Value>>) -> Lexeme
+/// Takes a token off, which stands on top.
+pub fn token(values: &mut Values) -> Lexeme
     requires { (it : Lexeme) × ((below : List (Item Lexeme Value)) × (reverse values.old ≡ I.Token it ∷ below)) }
     ensures { reverse values.old ≡ I.Token result ∷ reverse values.new }
 {
@@ -59,7 +58,8 @@ pub(crate) fn nothing(values: &mut List<Item<Lexeme, Value>>)
     }
 }
 
-pub(crate) fn names(values: &mut List<Item<Lexeme, Value>>) -> FrontList<Spelling>
+/// Takes `Names` off, which stands on top.
+pub fn names(values: &mut Values) -> FrontList<Spelling>
     requires { (it : List Spelling) × ((below : List (Item Lexeme Value)) × (reverse values.old ≡ I.Part (V.Names it) ∷ below)) }
     ensures { reverse values.old ≡ I.Part (V.Names result) ∷ reverse values.new }
 {
@@ -69,7 +69,8 @@ pub(crate) fn names(values: &mut List<Item<Lexeme, Value>>) -> FrontList<Spellin
     }
 }
 
-pub(crate) fn ty(values: &mut List<Item<Lexeme, Value>>) -> RawType
+/// Takes `Type` off, which stands on top.
+pub fn ty(values: &mut Values) -> RawType
     requires { (it : RawType) × ((below : List (Item Lexeme Value)) × (reverse values.old ≡ I.Part (V.Type it) ∷ below)) }
     ensures { reverse values.old ≡ I.Part (V.Type result) ∷ reverse values.new }
 {
@@ -79,7 +80,8 @@ pub(crate) fn ty(values: &mut List<Item<Lexeme, Value>>) -> RawType
     }
 }
 
-pub(crate) fn types(values: &mut List<Item<Lexeme, Value>>) -> FrontList<RawType>
+/// Takes `Types` off, which stands on top.
+pub fn types(values: &mut Values) -> FrontList<RawType>
     requires { (it : List RawType) × ((below : List (Item Lexeme Value)) × (reverse values.old ≡ I.Part (V.Types it) ∷ below)) }
     ensures { reverse values.old ≡ I.Part (V.Types result) ∷ reverse values.new }
 {
@@ -89,7 +91,8 @@ pub(crate) fn types(values: &mut List<Item<Lexeme, Value>>) -> FrontList<RawType
     }
 }
 
-pub(crate) fn after_type_name(values: &mut List<Item<Lexeme, Value>>) -> AfterTypeName
+/// Takes `AfterTypeName` off, which stands on top.
+pub fn after_type_name(values: &mut Values) -> AfterTypeName
     requires { (it : AfterTypeName) × ((below : List (Item Lexeme Value)) × (reverse values.old ≡ I.Part (V.AfterTypeName it) ∷ below)) }
     ensures { reverse values.old ≡ I.Part (V.AfterTypeName result) ∷ reverse values.new }
 {
@@ -99,7 +102,8 @@ pub(crate) fn after_type_name(values: &mut List<Item<Lexeme, Value>>) -> AfterTy
     }
 }
 
-pub(crate) fn fields(values: &mut List<Item<Lexeme, Value>>) -> FrontList<(Spelling, RawType)>
+/// Takes `Fields` off, which stands on top.
+pub fn fields(values: &mut Values) -> FrontList<(Spelling, RawType)>
     requires { (it : List (Spelling × RawType)) × ((below : List (Item Lexeme Value)) × (reverse values.old ≡ I.Part (V.Fields it) ∷ below)) }
     ensures { reverse values.old ≡ I.Part (V.Fields result) ∷ reverse values.new }
 {
@@ -109,7 +113,8 @@ pub(crate) fn fields(values: &mut List<Item<Lexeme, Value>>) -> FrontList<(Spell
     }
 }
 
-pub(crate) fn variant_rest(values: &mut List<Item<Lexeme, Value>>) -> VariantRest
+/// Takes `VariantRest` off, which stands on top.
+pub fn variant_rest(values: &mut Values) -> VariantRest
     requires { (it : VariantRest) × ((below : List (Item Lexeme Value)) × (reverse values.old ≡ I.Part (V.VariantRest it) ∷ below)) }
     ensures { reverse values.old ≡ I.Part (V.VariantRest result) ∷ reverse values.new }
 {
@@ -119,7 +124,8 @@ pub(crate) fn variant_rest(values: &mut List<Item<Lexeme, Value>>) -> VariantRes
     }
 }
 
-pub(crate) fn after_name(values: &mut List<Item<Lexeme, Value>>) -> AfterName
+/// Takes `AfterName` off, which stands on top.
+pub fn after_name(values: &mut Values) -> AfterName
     requires { (it : AfterName) × ((below : List (Item Lexeme Value)) × (reverse values.old ≡ I.Part (V.AfterName it) ∷ below)) }
     ensures { reverse values.old ≡ I.Part (V.AfterName result) ∷ reverse values.new }
 {
@@ -129,7 +135,8 @@ pub(crate) fn after_name(values: &mut List<Item<Lexeme, Value>>) -> AfterName
     }
 }
 
-pub(crate) fn variants(values: &mut List<Item<Lexeme, Value>>) -> FrontList<Variant>
+/// Takes `Variants` off, which stands on top.
+pub fn variants(values: &mut Values) -> FrontList<Variant>
     requires { (it : List Variant) × ((below : List (Item Lexeme Value)) × (reverse values.old ≡ I.Part (V.Variants it) ∷ below)) }
     ensures { reverse values.old ≡ I.Part (V.Variants result) ∷ reverse values.new }
 {
@@ -139,7 +146,8 @@ pub(crate) fn variants(values: &mut List<Item<Lexeme, Value>>) -> FrontList<Vari
     }
 }
 
-pub(crate) fn declaration(values: &mut List<Item<Lexeme, Value>>) -> Declaration
+/// Takes `Declaration` off, which stands on top.
+pub fn declaration(values: &mut Values) -> Declaration
     requires { (it : Declaration) × ((below : List (Item Lexeme Value)) × (reverse values.old ≡ I.Part (V.Declaration it) ∷ below)) }
     ensures { reverse values.old ≡ I.Part (V.Declaration result) ∷ reverse values.new }
 {
@@ -149,7 +157,8 @@ pub(crate) fn declaration(values: &mut List<Item<Lexeme, Value>>) -> Declaration
     }
 }
 
-pub(crate) fn declarations(values: &mut List<Item<Lexeme, Value>>) -> FrontList<Declaration>
+/// Takes `Declarations` off, which stands on top.
+pub fn declarations(values: &mut Values) -> FrontList<Declaration>
     requires { (it : List Declaration) × ((below : List (Item Lexeme Value)) × (reverse values.old ≡ I.Part (V.Declarations it) ∷ below)) }
     ensures { reverse values.old ≡ I.Part (V.Declarations result) ∷ reverse values.new }
 {
@@ -159,7 +168,8 @@ pub(crate) fn declarations(values: &mut List<Item<Lexeme, Value>>) -> FrontList<
     }
 }
 
-pub(crate) fn definition_name(values: &mut List<Item<Lexeme, Value>>) -> DefinitionName
+/// Takes `DefinitionName` off, which stands on top.
+pub fn definition_name(values: &mut Values) -> DefinitionName
     requires { (it : DefinitionName) × ((below : List (Item Lexeme Value)) × (reverse values.old ≡ I.Part (V.DefinitionName it) ∷ below)) }
     ensures { reverse values.old ≡ I.Part (V.DefinitionName result) ∷ reverse values.new }
 {
@@ -169,7 +179,8 @@ pub(crate) fn definition_name(values: &mut List<Item<Lexeme, Value>>) -> Definit
     }
 }
 
-pub(crate) fn name_end(values: &mut List<Item<Lexeme, Value>>) -> NameEnd
+/// Takes `NameEnd` off, which stands on top.
+pub fn name_end(values: &mut Values) -> NameEnd
     requires { (it : NameEnd) × ((below : List (Item Lexeme Value)) × (reverse values.old ≡ I.Part (V.NameEnd it) ∷ below)) }
     ensures { reverse values.old ≡ I.Part (V.NameEnd result) ∷ reverse values.new }
 {
@@ -179,7 +190,8 @@ pub(crate) fn name_end(values: &mut List<Item<Lexeme, Value>>) -> NameEnd
     }
 }
 
-pub(crate) fn back_end(values: &mut List<Item<Lexeme, Value>>) -> Option<Spelling>
+/// Takes `BackEnd` off, which stands on top.
+pub fn back_end(values: &mut Values) -> Option<Spelling>
     requires { (it : Option Spelling) × ((below : List (Item Lexeme Value)) × (reverse values.old ≡ I.Part (V.BackEnd it) ∷ below)) }
     ensures { reverse values.old ≡ I.Part (V.BackEnd result) ∷ reverse values.new }
 {
@@ -189,7 +201,8 @@ pub(crate) fn back_end(values: &mut List<Item<Lexeme, Value>>) -> Option<Spellin
     }
 }
 
-pub(crate) fn definition(values: &mut List<Item<Lexeme, Value>>) -> Definition
+/// Takes `Definition` off, which stands on top.
+pub fn definition(values: &mut Values) -> Definition
     requires { (it : Definition) × ((below : List (Item Lexeme Value)) × (reverse values.old ≡ I.Part (V.Definition it) ∷ below)) }
     ensures { reverse values.old ≡ I.Part (V.Definition result) ∷ reverse values.new }
 {
@@ -199,7 +212,8 @@ pub(crate) fn definition(values: &mut List<Item<Lexeme, Value>>) -> Definition
     }
 }
 
-pub(crate) fn definitions(values: &mut List<Item<Lexeme, Value>>) -> FrontList<Definition>
+/// Takes `Definitions` off, which stands on top.
+pub fn definitions(values: &mut Values) -> FrontList<Definition>
     requires { (it : List Definition) × ((below : List (Item Lexeme Value)) × (reverse values.old ≡ I.Part (V.Definitions it) ∷ below)) }
     ensures { reverse values.old ≡ I.Part (V.Definitions result) ∷ reverse values.new }
 {
@@ -209,7 +223,8 @@ pub(crate) fn definitions(values: &mut List<Item<Lexeme, Value>>) -> FrontList<D
     }
 }
 
-pub(crate) fn text(values: &mut List<Item<Lexeme, Value>>) -> RawText
+/// Takes `Text` off, which stands on top.
+pub fn text(values: &mut Values) -> RawText
     requires { (it : RawText) × ((below : List (Item Lexeme Value)) × (reverse values.old ≡ I.Part (V.Text it) ∷ below)) }
     ensures { reverse values.old ≡ I.Part (V.Text result) ∷ reverse values.new }
 {
@@ -219,7 +234,8 @@ pub(crate) fn text(values: &mut List<Item<Lexeme, Value>>) -> RawText
     }
 }
 
-pub(crate) fn constructor(values: &mut List<Item<Lexeme, Value>>) -> Constructor
+/// Takes `Constructor` off, which stands on top.
+pub fn constructor(values: &mut Values) -> Constructor
     requires { (it : Constructor) × ((below : List (Item Lexeme Value)) × (reverse values.old ≡ I.Part (V.Constructor it) ∷ below)) }
     ensures { reverse values.old ≡ I.Part (V.Constructor result) ∷ reverse values.new }
 {
@@ -229,7 +245,8 @@ pub(crate) fn constructor(values: &mut List<Item<Lexeme, Value>>) -> Constructor
     }
 }
 
-pub(crate) fn atom(values: &mut List<Item<Lexeme, Value>>) -> RawAtom
+/// Takes `Atom` off, which stands on top.
+pub fn atom(values: &mut Values) -> RawAtom
     requires { (it : RawAtom) × ((below : List (Item Lexeme Value)) × (reverse values.old ≡ I.Part (V.Atom it) ∷ below)) }
     ensures { reverse values.old ≡ I.Part (V.Atom result) ∷ reverse values.new }
 {
@@ -239,7 +256,8 @@ pub(crate) fn atom(values: &mut List<Item<Lexeme, Value>>) -> RawAtom
     }
 }
 
-pub(crate) fn atoms(values: &mut List<Item<Lexeme, Value>>) -> FrontList<RawAtom>
+/// Takes `Atoms` off, which stands on top.
+pub fn atoms(values: &mut Values) -> FrontList<RawAtom>
     requires { (it : List RawAtom) × ((below : List (Item Lexeme Value)) × (reverse values.old ≡ I.Part (V.Atoms it) ∷ below)) }
     ensures { reverse values.old ≡ I.Part (V.Atoms result) ∷ reverse values.new }
 {
@@ -249,7 +267,8 @@ pub(crate) fn atoms(values: &mut List<Item<Lexeme, Value>>) -> FrontList<RawAtom
     }
 }
 
-pub(crate) fn after_constructor(values: &mut List<Item<Lexeme, Value>>) -> AfterConstructor
+/// Takes `AfterConstructor` off, which stands on top.
+pub fn after_constructor(values: &mut Values) -> AfterConstructor
     requires { (it : AfterConstructor) × ((below : List (Item Lexeme Value)) × (reverse values.old ≡ I.Part (V.AfterConstructor it) ∷ below)) }
     ensures { reverse values.old ≡ I.Part (V.AfterConstructor result) ∷ reverse values.new }
 {
@@ -259,7 +278,8 @@ pub(crate) fn after_constructor(values: &mut List<Item<Lexeme, Value>>) -> After
     }
 }
 
-pub(crate) fn pattern(values: &mut List<Item<Lexeme, Value>>) -> Pattern
+/// Takes `Pattern` off, which stands on top.
+pub fn pattern(values: &mut Values) -> Pattern
     requires { (it : Pattern) × ((below : List (Item Lexeme Value)) × (reverse values.old ≡ I.Part (V.Pattern it) ∷ below)) }
     ensures { reverse values.old ≡ I.Part (V.Pattern result) ∷ reverse values.new }
 {
@@ -269,7 +289,8 @@ pub(crate) fn pattern(values: &mut List<Item<Lexeme, Value>>) -> Pattern
     }
 }
 
-pub(crate) fn operation(values: &mut List<Item<Lexeme, Value>>) -> Operation
+/// Takes `Operation` off, which stands on top.
+pub fn operation(values: &mut Values) -> Operation
     requires { (it : Operation) × ((below : List (Item Lexeme Value)) × (reverse values.old ≡ I.Part (V.Operation it) ∷ below)) }
     ensures { reverse values.old ≡ I.Part (V.Operation result) ∷ reverse values.new }
 {
@@ -279,7 +300,8 @@ pub(crate) fn operation(values: &mut List<Item<Lexeme, Value>>) -> Operation
     }
 }
 
-pub(crate) fn operation_end(values: &mut List<Item<Lexeme, Value>>) -> Option<Operation>
+/// Takes `OperationEnd` off, which stands on top.
+pub fn operation_end(values: &mut Values) -> Option<Operation>
     requires { (it : Option Operation) × ((below : List (Item Lexeme Value)) × (reverse values.old ≡ I.Part (V.OperationEnd it) ∷ below)) }
     ensures { reverse values.old ≡ I.Part (V.OperationEnd result) ∷ reverse values.new }
 {
@@ -289,7 +311,8 @@ pub(crate) fn operation_end(values: &mut List<Item<Lexeme, Value>>) -> Option<Op
     }
 }
 
-pub(crate) fn computation(values: &mut List<Item<Lexeme, Value>>) -> Computation
+/// Takes `Computation` off, which stands on top.
+pub fn computation(values: &mut Values) -> Computation
     requires { (it : Computation) × ((below : List (Item Lexeme Value)) × (reverse values.old ≡ I.Part (V.Computation it) ∷ below)) }
     ensures { reverse values.old ≡ I.Part (V.Computation result) ∷ reverse values.new }
 {
@@ -299,7 +322,8 @@ pub(crate) fn computation(values: &mut List<Item<Lexeme, Value>>) -> Computation
     }
 }
 
-pub(crate) fn code(values: &mut List<Item<Lexeme, Value>>) -> RawCode
+/// Takes `Code` off, which stands on top.
+pub fn code(values: &mut Values) -> RawCode
     requires { (it : RawCode) × ((below : List (Item Lexeme Value)) × (reverse values.old ≡ I.Part (V.Code it) ∷ below)) }
     ensures { reverse values.old ≡ I.Part (V.Code result) ∷ reverse values.new }
 {
@@ -309,7 +333,8 @@ pub(crate) fn code(values: &mut List<Item<Lexeme, Value>>) -> RawCode
     }
 }
 
-pub(crate) fn bound(values: &mut List<Item<Lexeme, Value>>) -> Bound
+/// Takes `Bound` off, which stands on top.
+pub fn bound(values: &mut Values) -> Bound
     requires { (it : Bound) × ((below : List (Item Lexeme Value)) × (reverse values.old ≡ I.Part (V.Bound it) ∷ below)) }
     ensures { reverse values.old ≡ I.Part (V.Bound result) ∷ reverse values.new }
 {
@@ -319,7 +344,8 @@ pub(crate) fn bound(values: &mut List<Item<Lexeme, Value>>) -> Bound
     }
 }
 
-pub(crate) fn arms(values: &mut List<Item<Lexeme, Value>>) -> FrontList<(Pattern, RawCode)>
+/// Takes `Arms` off, which stands on top.
+pub fn arms(values: &mut Values) -> FrontList<(Pattern, RawCode)>
     requires { (it : List (Pattern × RawCode)) × ((below : List (Item Lexeme Value)) × (reverse values.old ≡ I.Part (V.Arms it) ∷ below)) }
     ensures { reverse values.old ≡ I.Part (V.Arms result) ∷ reverse values.new }
 {
