@@ -188,6 +188,9 @@ PatternParts = ')' | ',' Variable PatternParts
 Variables = . | Variable Variables
 -- `comp`
 Computation = 'ok' Atom | 'fail' | DefinitionName 'n' Atoms | Primitive Atoms
+
+# Primitives
+
 -- `prim`
 Primitive = Int '.' IntOperator | 'Bool' '.' BoolOperator | 'cast' '.' CastFrom | 'Box' '.' 'new' | 'mem' '.' InMemory
 -- A cast after its first dot.

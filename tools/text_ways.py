@@ -297,6 +297,17 @@ fn {name}({alloc}{unused}values: &mut Values) -> Result<Value, NoMem>
     return text, name, body
 
 
+def ways_used(used):
+    """The imports of these functions, by the files of crates/raw_reader/src/ways that have them."""
+    lines = ["use crate::ways::spelled;\n"] if "spelled" in used else []
+    folder = os.path.join(os.path.dirname(HERE), "crates", CRATE, "src", "ways")
+    for file in sorted(os.listdir(folder)):
+        found = re.findall(r"pub\(crate\) fn (\w+)", open(os.path.join(folder, file), encoding="utf-8").read())
+        if used & set(found):
+            lines.append(f"use crate::ways::{file[:-3]}::{{{', '.join(sorted(used & set(found)))}}};\n")
+    return "".join(lines)
+
+
 def building():
     sections = {}
     for p in WAYS:
@@ -330,8 +341,7 @@ ghost use Rattle.std.specs.Prelude.{{IfOk}};
 ghost use Rattle.text_table.specs.declared.part.Part.TheVariants as N;
 ghost use Rattle.{CRATE}.specs.Makes.{{CanMake, IsMade}};
 
-use crate::ways::{{{', '.join(sorted(used - {'nothing'}))}}};
-use aen_base::NoMem;
+{ways_used(used - {'nothing'})}use aen_base::NoMem;
 {front}use {VALUES}::taking as take;
 use {VALUES}::value::{{Value, Values}};
 use std::alloc::Global;

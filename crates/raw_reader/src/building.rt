@@ -4,6 +4,7 @@ mod atoms;
 mod code;
 mod declarations;
 mod definitions;
+mod primitives;
 mod types;
 
 ghost use Rattle.std.specs.Prelude.{IfOk};
@@ -14,9 +15,8 @@ use crate::building::atoms::{
     build_constructor, build_exit_variant, build_plain_atom, build_tuple_parts,
 };
 use crate::building::code::{
-    build_arms, build_bound, build_cast_from, build_code, build_computation, build_in_memory,
-    build_pattern, build_pattern_parts, build_primitive, build_replace_end, build_swap_end,
-    build_swap_region, build_variables,
+    build_arms, build_bound, build_code, build_computation, build_pattern, build_pattern_parts,
+    build_variables,
 };
 use crate::building::declarations::{
     build_declaration, build_fields, build_names, build_text, build_type_parameters, build_types,
@@ -26,6 +26,10 @@ use crate::building::definitions::{
     build_back_end, build_definition, build_definition_name, build_definitions, build_fuel_match,
     build_fuel_parameter, build_implicit_parameters, build_name_end, build_name_part,
     build_parameters,
+};
+use crate::building::primitives::{
+    build_cast_from, build_in_memory, build_primitive, build_replace_end, build_swap_end,
+    build_swap_region,
 };
 use crate::building::types::{
     build_after_type_name, build_factors, build_other_type, build_type, build_type_arguments,

@@ -28,11 +28,11 @@ ghost use Rattle.raw_values.specs.declared.rests.Bound.{Bound};
 
 use crate::front_list::FrontList;
 use crate::rests::{AfterConstructor, AfterName, AfterTypeName, Bound, NameEnd, VariantRest};
-use crate::value::{Value, Values};
 use raw_ast::{
     Computation, Constructor, Declaration, Definition, DefinitionName, Operation, Pattern, RawAtom,
     RawCode, RawText, RawType, Spelling, Variant,
 };
+use crate::value::{Value, Values};
 use table_reader::Item;
 use text_table::Lexeme;
 

@@ -4,6 +4,7 @@ mod atoms;
 mod code;
 mod declarations;
 mod definitions;
+mod primitives;
 mod types;
 
 ghost use Rattle.std.specs.Prelude.{◌≡◌};
@@ -74,12 +75,12 @@ pub(crate) fn productions_of(part: Part) -> Productions
         Part::PatternParts => code::PATTERN_PARTS,
         Part::Variables => code::VARIABLES,
         Part::Computation => code::COMPUTATION,
-        Part::Primitive => code::PRIMITIVE,
-        Part::CastFrom => code::CAST_FROM,
-        Part::InMemory => code::IN_MEMORY,
-        Part::ReplaceEnd => code::REPLACE_END,
-        Part::SwapEnd => code::SWAP_END,
-        Part::SwapRegion => code::SWAP_REGION,
+        Part::Primitive => primitives::PRIMITIVE,
+        Part::CastFrom => primitives::CAST_FROM,
+        Part::InMemory => primitives::IN_MEMORY,
+        Part::ReplaceEnd => primitives::REPLACE_END,
+        Part::SwapEnd => primitives::SWAP_END,
+        Part::SwapRegion => primitives::SWAP_REGION,
         Part::Atom => atoms::ATOM,
         Part::PlainAtom => atoms::PLAIN_ATOM,
         Part::Constructor => atoms::CONSTRUCTOR,

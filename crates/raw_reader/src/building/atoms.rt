@@ -4,7 +4,7 @@ ghost use Rattle.std.specs.Prelude.{IfOk};
 ghost use Rattle.text_table.specs.declared.part.Part.TheVariants as N;
 ghost use Rattle.raw_reader.specs.Makes.{CanMake, IsMade};
 
-use crate::ways::{
+use crate::ways::atoms::{
     bracketed, brk, constructor_arguments, lone, more_parts, number_atom, ret, truth_atom,
     tuple_atom, unit_atom, variable_atom, variant_name,
 };

@@ -4,10 +4,11 @@ ghost use Rattle.std.specs.Prelude.{IfOk};
 ghost use Rattle.text_table.specs.declared.part.Part.TheVariants as N;
 ghost use Rattle.raw_reader.specs.Makes.{CanMake, IsMade};
 
-use crate::ways::{
-    end_parameters, ended, field, field_first, inductive, more_fields, name_first, spelled,
-    structure, text, variant,
+use crate::ways::declarations::{
+    end_parameters, ended, field, field_first, inductive, more_fields, name_first, structure, text,
+    variant,
 };
+use crate::ways::spelled;
 use aen_base::NoMem;
 use raw_values::front_list::FrontList;
 use raw_values::taking as take;

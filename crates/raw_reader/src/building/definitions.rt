@@ -4,9 +4,11 @@ ghost use Rattle.std.specs.Prelude.{IfOk};
 ghost use Rattle.text_table.specs.declared.part.Part.TheVariants as N;
 ghost use Rattle.raw_reader.specs.Makes.{CanMake, IsMade};
 
-use crate::ways::{
-    back_end, definition, definition_name, field, loop_end, no_back, no_end, some_back, spelled,
+use crate::ways::declarations::field;
+use crate::ways::definitions::{
+    back_end, definition, definition_name, loop_end, no_back, no_end, some_back,
 };
+use crate::ways::spelled;
 use aen_base::NoMem;
 use raw_values::front_list::FrontList;
 use raw_values::taking as take;

@@ -4,7 +4,7 @@ ghost use Rattle.std.specs.Prelude.{IfOk};
 ghost use Rattle.text_table.specs.declared.part.Part.TheVariants as N;
 ghost use Rattle.raw_reader.specs.Makes.{CanMake, IsMade};
 
-use crate::ways::{
+use crate::ways::types::{
     after_name, bool_type, exit_type, int_type, more_factors, named_alone, product_type,
     type_arguments, unit_type,
 };
