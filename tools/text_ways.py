@@ -160,9 +160,10 @@ IsMade n i old it new = IsBuilt carrier held n (made n) i (reverse old) it (reve
 
 
 # ----------------------------------------------------------------------------------------------------------------- code
-IMPORTS = """use crate::front_list::FrontList;
+OWN = """use crate::front_list::FrontList;
 use crate::rests::{AfterConstructor, AfterName, AfterTypeName, Bound, NameEnd, VariantRest};
-use raw_ast::{
+"""
+IMPORTS = """use raw_ast::{
     Computation, Constructor, Declaration, Definition, DefinitionName, Operation, Pattern, RawAtom,
     RawCode, RawText, RawType, Spelling, Variant,
 };
@@ -170,7 +171,7 @@ use raw_ast::{
 
 
 def value():
-    text = f"//! The values of parts. {NOTE}\n\n{IMPORTS}use aen_base::List;\nuse table_reader::Item;\nuse text_table::Lexeme;\n"
+    text = f"//! The values of parts. {NOTE}\n\n{OWN}use aen_base::List;\n{IMPORTS}use table_reader::Item;\nuse text_table::Lexeme;\n"
     text += "\n/// What a part is read as.\n#[derive(Drop)]\npub enum Value {\n"
     text += "".join(f"    {k}{f'({t})' if t else ''},\n" for k, (t, _) in KINDS.items()) + "}\n"
     return text + "\n/// The values of symbols that were read, the newest last.\npub type Values = List<Item<Lexeme, Value>>;\n"
@@ -188,8 +189,8 @@ ghost use Rattle.{VALUES}.specs.declared.value.Value.TheVariants as V;
 """
     text += "".join("ghost " + line + ";\n" for line in TREES.strip().split("\n"))
     text += f"""
-{IMPORTS}use crate::value::{{Value, Values}};
-use table_reader::Item;
+{OWN}use crate::value::{{Value, Values}};
+{IMPORTS}use table_reader::Item;
 use text_table::Lexeme;
 
 /// Takes a token off, which stands on top.
@@ -206,8 +207,8 @@ pub fn token(values: &mut Values) -> Lexeme
     for k, (t, s) in KINDS.items():
         if t is None:
             text += f"""
-/// Takes a part off that is read as nothing.
-pub(crate) fn {kind_name(k)}(values: &mut List<Item<Lexeme, Value>>)
+/// Takes a part off that is read as nothing, which stands on top.
+pub fn {kind_name(k)}(values: &mut Values)
     requires {{ (below : List (Item Lexeme Value)) × (reverse values.old ≡ I.Part V.{k} ∷ below) }}
     ensures {{ reverse values.old ≡ I.Part V.{k} ∷ reverse values.new }}
 {{
@@ -269,7 +270,7 @@ class Body:
 
 def name_of(p, i):
     """The name of the function of a production."""
-    return snake(p) if len(WAYS[p]) == 1 else f"{ORDINALS[i]}_{snake(p)}"
+    return f"{'only' if len(WAYS[p]) == 1 else ORDINALS[i]}_{snake(p)}"
 
 
 def function(p, i, way, production, single):

@@ -28,11 +28,11 @@ ghost use Rattle.raw_values.specs.declared.rests.Bound.{Bound};
 
 use crate::front_list::FrontList;
 use crate::rests::{AfterConstructor, AfterName, AfterTypeName, Bound, NameEnd, VariantRest};
+use crate::value::{Value, Values};
 use raw_ast::{
     Computation, Constructor, Declaration, Definition, DefinitionName, Operation, Pattern, RawAtom,
     RawCode, RawText, RawType, Spelling, Variant,
 };
-use crate::value::{Value, Values};
 use table_reader::Item;
 use text_table::Lexeme;
 
@@ -47,8 +47,8 @@ pub fn token(values: &mut Values) -> Lexeme
     }
 }
 
-/// Takes a part off that is read as nothing.
-pub(crate) fn nothing(values: &mut List<Item<Lexeme, Value>>)
+/// Takes a part off that is read as nothing, which stands on top.
+pub fn nothing(values: &mut Values)
     requires { (below : List (Item Lexeme Value)) × (reverse values.old ≡ I.Part V.Nothing ∷ below) }
     ensures { reverse values.old ≡ I.Part V.Nothing ∷ reverse values.new }
 {

@@ -2,11 +2,11 @@
 
 use crate::front_list::FrontList;
 use crate::rests::{AfterConstructor, AfterName, AfterTypeName, Bound, NameEnd, VariantRest};
+use aen_base::List;
 use raw_ast::{
     Computation, Constructor, Declaration, Definition, DefinitionName, Operation, Pattern, RawAtom,
     RawCode, RawText, RawType, Spelling, Variant,
 };
-use aen_base::List;
 use table_reader::Item;
 use text_table::Lexeme;
 

@@ -15,7 +15,7 @@ use raw_values::taking as take;
 use raw_values::value::{Value, Values};
 use std::alloc::Global;
 
-fn text(values: &mut Values) -> Result<Value, NoMem>
+fn only_text(values: &mut Values) -> Result<Value, NoMem>
     requires { CanMake N.Text 0 values.old }
     ensures { IfOk result (λ it. IsMade N.Text 0 values.old it values.new) }
 {
@@ -34,7 +34,7 @@ pub(crate) fn build_text(_alloc: Global, index: usize, values: &mut Values) -> R
     ensures { IfOk result (λ it. IsMade N.Text index values.old it values.new) }
 {
     match index {
-        0 => text(values),
+        0 => only_text(values),
         _ => unreachable!(),
     }
 }

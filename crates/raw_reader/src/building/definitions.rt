@@ -48,7 +48,7 @@ pub(crate) fn build_definitions(
     }
 }
 
-fn definition(values: &mut Values) -> Result<Value, NoMem>
+fn only_definition(values: &mut Values) -> Result<Value, NoMem>
     requires { CanMake N.Definition 0 values.old }
     ensures { IfOk result (λ it. IsMade N.Definition 0 values.old it values.new) }
 {
@@ -76,12 +76,12 @@ pub(crate) fn build_definition(
     ensures { IfOk result (λ it. IsMade N.Definition index values.old it values.new) }
 {
     match index {
-        0 => definition(values),
+        0 => only_definition(values),
         _ => unreachable!(),
     }
 }
 
-fn fuel_parameter(values: &mut Values) -> Result<Value, NoMem>
+fn only_fuel_parameter(values: &mut Values) -> Result<Value, NoMem>
     requires { CanMake N.FuelParameter 0 values.old }
     ensures { IfOk result (λ it. IsMade N.FuelParameter 0 values.old it values.new) }
 {
@@ -103,12 +103,12 @@ pub(crate) fn build_fuel_parameter(
     ensures { IfOk result (λ it. IsMade N.FuelParameter index values.old it values.new) }
 {
     match index {
-        0 => fuel_parameter(values),
+        0 => only_fuel_parameter(values),
         _ => unreachable!(),
     }
 }
 
-fn fuel_match(values: &mut Values) -> Result<Value, NoMem>
+fn only_fuel_match(values: &mut Values) -> Result<Value, NoMem>
     requires { CanMake N.FuelMatch 0 values.old }
     ensures { IfOk result (λ it. IsMade N.FuelMatch 0 values.old it values.new) }
 {
@@ -138,12 +138,12 @@ pub(crate) fn build_fuel_match(
     ensures { IfOk result (λ it. IsMade N.FuelMatch index values.old it values.new) }
 {
     match index {
-        0 => fuel_match(values),
+        0 => only_fuel_match(values),
         _ => unreachable!(),
     }
 }
 
-fn definition_name(values: &mut Values) -> Result<Value, NoMem>
+fn only_definition_name(values: &mut Values) -> Result<Value, NoMem>
     requires { CanMake N.DefinitionName 0 values.old }
     ensures { IfOk result (λ it. IsMade N.DefinitionName 0 values.old it values.new) }
 {
@@ -164,7 +164,7 @@ pub(crate) fn build_definition_name(
     ensures { IfOk result (λ it. IsMade N.DefinitionName index values.old it values.new) }
 {
     match index {
-        0 => definition_name(values),
+        0 => only_definition_name(values),
         _ => unreachable!(),
     }
 }

@@ -7,8 +7,8 @@ use Rattle.raw_values.specs.Carriers.{carrier, held}
 use Rattle.raw_reader.specs.Makes.{made}
 use Rattle.raw_reader.proofs.building.definitions.build_definition.Goals as goal
 
-pub definition-requires : goal.definition-requires
-definition-requires c = can_build_at carrier held made N.Definition N.Definition c.args.index 0 (reverse c.args.values.now) refl c.in-eq0.is c.requires
+pub only_definition-requires : goal.only_definition-requires
+only_definition-requires c = can_build_at carrier held made N.Definition N.Definition c.args.index 0 (reverse c.args.values.now) refl c.in-eq0.is c.requires
 
 pub returns-in-eq0 : goal.returns-in-eq0
-returns-in-eq0 c = built_at carrier held made N.Definition N.Definition c.args.index 0 (reverse c.args.values.now) (reverse c.definition.new.values) NoMem c.definition.result refl c.in-eq0.is c.definition.ensures
+returns-in-eq0 c = built_at carrier held made N.Definition N.Definition c.args.index 0 (reverse c.args.values.now) (reverse c.only_definition.new.values) NoMem c.only_definition.result refl c.in-eq0.is c.only_definition.ensures

@@ -7,8 +7,8 @@ use Rattle.raw_values.specs.Carriers.{carrier, held}
 use Rattle.raw_reader.specs.Makes.{made}
 use Rattle.raw_reader.proofs.building.definitions.build_fuel_parameter.Goals as goal
 
-pub fuel_parameter-requires : goal.fuel_parameter-requires
-fuel_parameter-requires c = can_build_at carrier held made N.FuelParameter N.FuelParameter c.args.index 0 (reverse c.args.values.now) refl c.in-eq0.is c.requires
+pub only_fuel_parameter-requires : goal.only_fuel_parameter-requires
+only_fuel_parameter-requires c = can_build_at carrier held made N.FuelParameter N.FuelParameter c.args.index 0 (reverse c.args.values.now) refl c.in-eq0.is c.requires
 
 pub returns-in-eq0 : goal.returns-in-eq0
-returns-in-eq0 c = built_at carrier held made N.FuelParameter N.FuelParameter c.args.index 0 (reverse c.args.values.now) (reverse c.fuel_parameter.new.values) NoMem c.fuel_parameter.result refl c.in-eq0.is c.fuel_parameter.ensures
+returns-in-eq0 c = built_at carrier held made N.FuelParameter N.FuelParameter c.args.index 0 (reverse c.args.values.now) (reverse c.only_fuel_parameter.new.values) NoMem c.only_fuel_parameter.result refl c.in-eq0.is c.only_fuel_parameter.ensures
