@@ -53,6 +53,14 @@ both f None o = None
 both f (Some x) None = None
 both f (Some x) (Some y) = Some (f x y)
 
+abbrev pub three : {A B D E : Type 0} → (A → B → D → E) → Option A → Option B → Option D → Option E
+three f None o q = None
+three f (Some x) o q = both (f x) o q
+
+abbrev pub four : {A B D E F : Type 0} → (A → B → D → E → F) → Option A → Option B → Option D → Option E → Option F
+four f None o q r = None
+four f (Some x) o q r = three (f x) o q r
+
 -- each item of a list
 abbrev pub each : {A B : Type 0} → (A → Option B) → List A → Option (List B)
 each f [] = Some []
@@ -63,8 +71,8 @@ abbrev pub with_parts : {A : Type 0} → Option (A × ℕ) → ℕ → Option A
 with_parts None count = None
 with_parts (Some p) count = if p.1 == count then Some p.0 else None
 
-abbrev pub variable : Spelling → Option ℕ
-variable s = numbered (codes "v") s.text
+abbrev pub variable_number : Spelling → Option ℕ
+variable_number s = numbered (codes "v") s.text
 
 -- ---- types, in a declaration with these type parameters
 
@@ -74,64 +82,64 @@ named_by (Some k) found (suc n) args = None
 named_by None found n args = both (λ k ts. ty.named k ts) (with_parts found n) args
 
 abbrev mutual
-  pub type : Outline → List (List ℕ) → RawType → Option PTy
-  type h ps (t.integer i) = Some (ty.integer i)
-  type h ps t.boolean = Some ty.boolean
-  type h ps t.unit = Some ty.unit
-  type h ps (t.product parts) = option_map (λ ts. ty.product ts) (types h ps parts)
-  type h ps (t.named s args) = named_by (place_of ps s.text) (type_of h s.text) (length (rawtypes_list args)) (types h ps args)
-  type h ps (t.exit broken returned) = both (λ x y. ty.exit x y) (type h ps broken) (type h ps returned)
+  pub type_tree : Outline → List (List ℕ) → RawType → Option PTy
+  type_tree h ps (t.integer i) = Some (ty.integer i)
+  type_tree h ps t.boolean = Some ty.boolean
+  type_tree h ps t.unit = Some ty.unit
+  type_tree h ps (t.product parts) = option_map (λ ts. ty.product ts) (type_trees h ps parts)
+  type_tree h ps (t.named s args) = named_by (place_of ps s.text) (type_of h s.text) (length (rawtypes_list args)) (type_trees h ps args)
+  type_tree h ps (t.exit broken returned) = both (λ x y. ty.exit x y) (type_tree h ps broken) (type_tree h ps returned)
 
-  pub types : Outline → List (List ℕ) → RawTypes → Option PTys
-  types h ps t.no_rawtypes = Some ty.no_ptys
-  types h ps (t.more_rawtypes x rest) = both (λ y ys. ty.more_ptys y ys) (type h ps x) (types h ps rest)
+  pub type_trees : Outline → List (List ℕ) → RawTypes → Option PTys
+  type_trees h ps t.no_rawtypes = Some ty.no_ptys
+  type_trees h ps (t.more_rawtypes x rest) = both (λ y ys. ty.more_ptys y ys) (type_tree h ps x) (type_trees h ps rest)
 
 -- ---- atoms, patterns, computations, code
 
-abbrev pub constructor : Outline → Constructor → ℕ → Option CtorId
-constructor h (C.Of ty name) count = with_parts (constructor_of h ty.text name.text) count
-constructor h (C.Brk span) count = with_parts (Some (Brk, 1)) count
-constructor h (C.Ret span) count = with_parts (Some (Ret, 1)) count
+abbrev pub constructor_id : Outline → Constructor → ℕ → Option CtorId
+constructor_id h (C.Of ty name) count = with_parts (constructor_of h ty.text name.text) count
+constructor_id h (C.Brk span) count = with_parts (Some (Brk, 1)) count
+constructor_id h (C.Ret span) count = with_parts (Some (Ret, 1)) count
 
 abbrev mutual
-  pub atom : Outline → RawAtom → Option Term
-  atom h (a.var s) = option_map (λ k. term.var k) (variable s)
-  atom h (a.literal s i) = option_map (λ n. term.literal n) (number_of s.text i)
-  atom h (a.truth b) = Some (term.truth b)
-  atom h (a.tuple parts) = option_map (λ ts. term.tuple ts) (atoms h parts)
-  atom h (a.built name parts) = both (λ k ts. term.built k ts) (constructor h name (length (rawatoms_list parts))) (atoms h parts)
+  pub atom_tree : Outline → RawAtom → Option Term
+  atom_tree h (a.var s) = option_map (λ k. term.var k) (variable_number s)
+  atom_tree h (a.literal s i) = option_map (λ n. term.literal n) (number_of s.text i)
+  atom_tree h (a.truth b) = Some (term.truth b)
+  atom_tree h (a.tuple parts) = option_map (λ ts. term.tuple ts) (atom_trees h parts)
+  atom_tree h (a.built name parts) = both (λ k ts. term.built k ts) (constructor_id h name (length (rawatoms_list parts))) (atom_trees h parts)
 
-  pub atoms : Outline → RawAtoms → Option Terms
-  atoms h a.no_rawatoms = Some term.no_terms
-  atoms h (a.more_rawatoms x rest) = both (λ y ys. term.more_terms y ys) (atom h x) (atoms h rest)
+  pub atom_trees : Outline → RawAtoms → Option Terms
+  atom_trees h a.no_rawatoms = Some term.no_terms
+  atom_trees h (a.more_rawatoms x rest) = both (λ y ys. term.more_terms y ys) (atom_tree h x) (atom_trees h rest)
 
-abbrev pub variables : List Spelling → Option (List ℕ)
-variables names = each variable names
+abbrev pub variable_numbers : List Spelling → Option (List ℕ)
+variable_numbers names = each variable_number names
 
-abbrev pub pattern : Outline → Pattern → Option Pat
-pattern h (P.Truth b) = Some (pat.Bool b)
-pattern h (P.Tuple names) = option_map (λ vs. pat.Tuple vs) (variables names)
-pattern h (P.Built name names) = both (λ k vs. pat.Ctor k vs) (constructor h name (length names)) (variables names)
+abbrev pub pattern_tree : Outline → Pattern → Option Pat
+pattern_tree h (P.Truth b) = Some (pat.Bool b)
+pattern_tree h (P.Tuple names) = option_map (λ vs. pat.Tuple vs) (variable_numbers names)
+pattern_tree h (P.Built name names) = both (λ k vs. pat.Ctor k vs) (constructor_id h name (length names)) (variable_numbers names)
 
-abbrev pub listed : Outline → List RawAtom → Option (List Term)
-listed h xs = option_map terms_list (atoms h (rawatoms xs))
+abbrev pub atoms_listed : Outline → List RawAtom → Option (List Term)
+atoms_listed h xs = option_map terms_list (atom_trees h (rawatoms xs))
 
-abbrev pub computation : Outline → Computation → Option Comp
-computation h (K.Ok x) = option_map (λ y. comp.Ok y) (atom h x)
-computation h K.Fail = Some comp.Fail
-computation h (K.Call name xs) = both (λ d ys. comp.Call (record { 0 = d }) ys) (with_parts (definition_of h name) (length xs)) (listed h xs)
-computation h (K.Primitive o xs) = both (λ p ys. comp.Prim p ys) (with_parts (Some (o.primitive, arity o.primitive)) (length xs)) (listed h xs)
+abbrev pub computation_tree : Outline → Computation → Option Comp
+computation_tree h (K.Ok x) = option_map (λ y. comp.Ok y) (atom_tree h x)
+computation_tree h K.Fail = Some comp.Fail
+computation_tree h (K.Call name xs) = both (λ d ys. comp.Call (record { 0 = d }) ys) (with_parts (definition_of h name) (length xs)) (atoms_listed h xs)
+computation_tree h (K.Primitive o xs) = both (λ p ys. comp.Prim p ys) (with_parts (Some (o.primitive, arity o.primitive)) (length xs)) (atoms_listed h xs)
 
 abbrev mutual
-  pub body : Outline → RawCode → Option Code
-  body h (c.bind v x rest) = both (λ k f. f k) (variable v) (both (λ y r k. code.bind k y r) (computation h x) (body h rest))
-  body h (c.put v x rest) = both (λ k f. f k) (variable v) (both (λ y r k. code.put k y r) (atom h x) (body h rest))
-  body h (c.select x all) = both (λ y r. code.select y r) (atom h x) (arms h all)
-  body h (c.last x) = option_map (λ y. code.last y) (computation h x)
+  pub code_tree : Outline → RawCode → Option Code
+  code_tree h (c.bind v x rest) = three (λ k y r. code.bind k y r) (variable_number v) (computation_tree h x) (code_tree h rest)
+  code_tree h (c.put v x rest) = three (λ k y r. code.put k y r) (variable_number v) (atom_tree h x) (code_tree h rest)
+  code_tree h (c.select x all) = both (λ y r. code.select y r) (atom_tree h x) (arm_trees h all)
+  code_tree h (c.last x) = option_map (λ y. code.last y) (computation_tree h x)
 
-  pub arms : Outline → RawArms → Option Arms
-  arms h c.no_rawarms = Some code.no_arms
-  arms h (c.more_rawarms p x rest) = both (λ q f. f q) (pattern h p) (both (λ y r q. code.more_arms q y r) (body h x) (arms h rest))
+  pub arm_trees : Outline → RawArms → Option Arms
+  arm_trees h c.no_rawarms = Some code.no_arms
+  arm_trees h (c.more_rawarms p x rest) = three (λ q y r. code.more_arms q y r) (pattern_tree h p) (code_tree h x) (arm_trees h rest)
 
 -- ---- declarations
 
@@ -140,44 +148,43 @@ abbrev pub numbered_fields : ℕ → List PTy → List (List ℕ × PTy)
 numbered_fields k [] = []
 numbered_fields k (x ∷ xs) = (codes "f" ++ decimal k, x) ∷ numbered_fields (suc k) xs
 
-abbrev pub variant : Outline → List (List ℕ) → Variant → Option NamedFields
-variant h ps v = option_map (λ xs. (v.name.text, numbered_fields 0 xs)) (each (type h ps) v.fields)
+abbrev pub variant_tree : Outline → List (List ℕ) → Variant → Option NamedFields
+variant_tree h ps v = option_map (λ xs. (v.name.text, numbered_fields 0 xs)) (each (type_tree h ps) v.fields)
 
-abbrev pub field : Outline → List (List ℕ) → Spelling × RawType → Option (List ℕ × PTy)
-field h ps f = option_map (λ x. (f.0.text, x)) (type h ps f.1)
+abbrev pub field_tree : Outline → List (List ℕ) → Spelling × RawType → Option (List ℕ × PTy)
+field_tree h ps f = option_map (λ x. (f.0.text, x)) (type_tree h ps f.1)
 
-abbrev pub members : Outline → List (List ℕ) → Members → Option (List NamedFields)
-members h ps (M.Variants variants) = each (variant h ps) variants
-members h ps (M.Fields fields) = option_map (λ xs. (codes "mk", xs) ∷ []) (each (field h ps) fields)
+abbrev pub members_trees : Outline → List (List ℕ) → Members → Option (List NamedFields)
+members_trees h ps (M.Variants variants) = each (variant_tree h ps) variants
+members_trees h ps (M.Fields fields) = option_map (λ xs. (codes "mk", xs) ∷ []) (each (field_tree h ps) fields)
 
 abbrev is_structure : Members → Bool
 is_structure (M.Variants variants) = false
 is_structure (M.Fields fields) = true
 
-abbrev pub declaration : Outline → Declaration → Option PType
-declaration h d =
+abbrev pub declaration_tree : Outline → Declaration → Option PType
+declaration_tree h d =
     option_map (λ vs. record { name = d.name.text; is_struct = is_structure d.members; params = texts d.parameters; variants = vs })
-    (members h (texts d.parameters) d.members)
+    (members_trees h (texts d.parameters) d.members)
 
 -- ---- definitions
 
 abbrev defined : DefKind → List (List ℕ) → List PTy → PTy → Code → Def
 defined kind ps xs result code = record { kind = kind; type_params = ps; params = xs; result = result; code = code }
 
-abbrev pub parameters : Outline → List (List ℕ) → List (Spelling × RawType) → Option (List PTy)
-parameters h ps xs = each (λ (p : Spelling × RawType). type h ps p.1) xs
+abbrev pub parameter_types : Outline → List (List ℕ) → List (Spelling × RawType) → Option (List PTy)
+parameter_types h ps xs = each (λ (p : Spelling × RawType). type_tree h ps p.1) xs
 
-abbrev pub definition : Outline → Definition → Option Def
-definition h d =
-    both (λ kind f. f kind) (kind_of h.functions d.name)
-    (both (λ xs f kind. f kind xs) (parameters h (texts d.type_parameters) d.parameters)
-    (both (λ r b kind xs. defined kind (texts d.type_parameters) xs r b) (type h (texts d.type_parameters) d.result) (body h d.code)))
+abbrev pub definition_tree : Outline → Definition → Option Def
+definition_tree h d =
+    four (λ kind xs r b. defined kind (texts d.type_parameters) xs r b) (kind_of h.functions d.name)
+    (parameter_types h (texts d.type_parameters) d.parameters) (type_tree h (texts d.type_parameters) d.result) (code_tree h d.code)
 
 -- ---- a text
 
 abbrev pub definitions_in : Outline → RawText → Option Defs
 definitions_in h text =
-    both (λ types ds. record { types = types; names = h.functions; defs = ds }) (each (declaration h) text.types) (each (definition h) text.definitions)
+    both (λ types ds. record { types = types; names = h.functions; defs = ds }) (each (declaration_tree h) text.types) (each (definition_tree h) text.definitions)
 
 abbrev pub definitions : RawText → Option Defs
 definitions text = definitions_in (outline_of text) text
