@@ -4,3 +4,4 @@ pub mod Lookups
 pub mod Rules
 pub mod Faults
 pub mod Trees
+pub mod Wants
