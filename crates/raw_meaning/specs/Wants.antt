@@ -209,7 +209,7 @@ fuel_parameter_wants rest = marks Open (says (codes "n") (marks Colon (says (cod
 abbrev pub fuel_match_wants : Wants → Wants
 fuel_match_wants rest =
     says (codes "match") (says (codes "n") (says (codes "with") (marks Bar (fixed (number (pos 0)) ∷ marks Gives (says (codes "outOfFuel")
-    (marks Bar (says (codes "n") (marks Plus (fixed (number (pos 1)) ∷ marks Gives (says (codes "do") rest)))))))))
+    (marks Bar (says (codes "n") (marks Plus (fixed (number (pos 1)) ∷ marks Gives (says (codes "do") rest))))))))))
 
 abbrev pub parameters_wants : List (Spelling × RawType) → Wants → Wants
 parameters_wants [] rest = rest
@@ -218,7 +218,7 @@ parameters_wants (p ∷ more) rest = marks Open (numbered p.0.text ∷ marks Col
 abbrev pub definition_wants : Definition → Wants → Wants
 definition_wants d rest =
     says (codes "def") (name_wants d.name (type_parameters_wants OpenBrace CloseBrace d.type_parameters (fuel_parameter_wants
-    (parameters_wants d.parameters (marks Colon (says (codes "Result") (type_wants d.result (marks Becomes (fuel_match_wants (code_wants d.code rest)))))))))
+    (parameters_wants d.parameters (marks Colon (says (codes "Result") (type_wants d.result (marks Becomes (fuel_match_wants (code_wants d.code rest))))))))))
 
 abbrev pub definitions_wants : List Definition → Wants → Wants
 definitions_wants [] rest = rest
