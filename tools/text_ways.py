@@ -142,7 +142,7 @@ abbrev pub makes : (n : Part) → Makes Terminal Part Lexeme carrier n (producti
             rows.append(f"λ v. {spec(parse(way[1]), bound)}")
         body = "tt"
         for r in reversed(rows):
-            body = f"({r}, {body})"
+            body = f"(({r}), {body})"
         text += f"makes N.{p} = {body}\n"
     return text + """
 -- the productions with what they make
@@ -286,11 +286,10 @@ def function(p, i, way, production, single):
     kind = KIND_OF[p]
     made = "" if way[1] == "nothing" else body.code(parse(way[1]))
     alloc = "alloc: Global, " if body.alloc else ""
-    unused = "" if production else "_"
     text = f"""
-fn {name}({alloc}{unused}values: &mut Values) -> Result<Value, NoMem>
-    requires {{ CanMake N.{p} {i} {unused}values.old }}
-    ensures {{ IfOk result (λ it. IsMade N.{p} {i} {unused}values.old it {unused}values.new) }}
+fn {name}({alloc}values: &mut Values) -> Result<Value, NoMem>
+    requires {{ CanMake N.{p} {i} values.old }}
+    ensures {{ IfOk result (λ it. IsMade N.{p} {i} values.old it values.new) }}
 {{
 {taken}{''.join(body.lines)}    Ok(Value::{kind}{f'({made})' if made else ''})
 }}

@@ -28,15 +28,15 @@ impl Grammar for TextReader {
     ghost weight = { spec.weight };
 
     fn takes(terminal: Terminal, lexeme: &Lexeme) -> Take<Lexeme> {
-        <TextGrammar as Grammar>::takes(terminal, lexeme)
+        TextGrammar::takes(terminal, lexeme)
     }
 
     fn productions(part: Part) -> &'static [Production<Terminal, Part>] {
-        <TextGrammar as Grammar>::productions(part)
+        TextGrammar::productions(part)
     }
 
     fn rank() -> usize {
-        <TextGrammar as Grammar>::rank()
+        TextGrammar::rank()
     }
 
     ghost fits = { fits };

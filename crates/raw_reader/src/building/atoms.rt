@@ -318,9 +318,9 @@ pub(crate) fn build_arguments(
     }
 }
 
-fn first_atoms(alloc: Global, _values: &mut Values) -> Result<Value, NoMem>
-    requires { CanMake N.Atoms 0 _values.old }
-    ensures { IfOk result (λ it. IsMade N.Atoms 0 _values.old it _values.new) }
+fn first_atoms(alloc: Global, values: &mut Values) -> Result<Value, NoMem>
+    requires { CanMake N.Atoms 0 values.old }
+    ensures { IfOk result (λ it. IsMade N.Atoms 0 values.old it values.new) }
 {
     Ok(Value::Atoms(FrontList::new(alloc)))
 }

@@ -209,9 +209,9 @@ pub(crate) fn build_pattern_parts(
     }
 }
 
-fn first_variables(alloc: Global, _values: &mut Values) -> Result<Value, NoMem>
-    requires { CanMake N.Variables 0 _values.old }
-    ensures { IfOk result (λ it. IsMade N.Variables 0 _values.old it _values.new) }
+fn first_variables(alloc: Global, values: &mut Values) -> Result<Value, NoMem>
+    requires { CanMake N.Variables 0 values.old }
+    ensures { IfOk result (λ it. IsMade N.Variables 0 values.old it values.new) }
 {
     Ok(Value::Names(FrontList::new(alloc)))
 }

@@ -39,9 +39,9 @@ pub(crate) fn build_text(_alloc: Global, index: usize, values: &mut Values) -> R
     }
 }
 
-fn first_types(alloc: Global, _values: &mut Values) -> Result<Value, NoMem>
-    requires { CanMake N.Types 0 _values.old }
-    ensures { IfOk result (λ it. IsMade N.Types 0 _values.old it _values.new) }
+fn first_types(alloc: Global, values: &mut Values) -> Result<Value, NoMem>
+    requires { CanMake N.Types 0 values.old }
+    ensures { IfOk result (λ it. IsMade N.Types 0 values.old it values.new) }
 {
     Ok(Value::Declarations(FrontList::new(alloc)))
 }
@@ -108,9 +108,9 @@ pub(crate) fn build_declaration(
     }
 }
 
-fn first_type_parameters(alloc: Global, _values: &mut Values) -> Result<Value, NoMem>
-    requires { CanMake N.TypeParameters 0 _values.old }
-    ensures { IfOk result (λ it. IsMade N.TypeParameters 0 _values.old it _values.new) }
+fn first_type_parameters(alloc: Global, values: &mut Values) -> Result<Value, NoMem>
+    requires { CanMake N.TypeParameters 0 values.old }
+    ensures { IfOk result (λ it. IsMade N.TypeParameters 0 values.old it values.new) }
 {
     Ok(Value::Names(FrontList::new(alloc)))
 }
@@ -145,9 +145,9 @@ pub(crate) fn build_type_parameters(
     }
 }
 
-fn first_variants(alloc: Global, _values: &mut Values) -> Result<Value, NoMem>
-    requires { CanMake N.Variants 0 _values.old }
-    ensures { IfOk result (λ it. IsMade N.Variants 0 _values.old it _values.new) }
+fn first_variants(alloc: Global, values: &mut Values) -> Result<Value, NoMem>
+    requires { CanMake N.Variants 0 values.old }
+    ensures { IfOk result (λ it. IsMade N.Variants 0 values.old it values.new) }
 {
     Ok(Value::Variants(FrontList::new(alloc)))
 }
@@ -218,9 +218,9 @@ pub(crate) fn build_variant_type(
     }
 }
 
-fn first_variant_end(alloc: Global, _values: &mut Values) -> Result<Value, NoMem>
-    requires { CanMake N.VariantEnd 0 _values.old }
-    ensures { IfOk result (λ it. IsMade N.VariantEnd 0 _values.old it _values.new) }
+fn first_variant_end(alloc: Global, values: &mut Values) -> Result<Value, NoMem>
+    requires { CanMake N.VariantEnd 0 values.old }
+    ensures { IfOk result (λ it. IsMade N.VariantEnd 0 values.old it values.new) }
 {
     let made = ended(alloc)?;
     Ok(Value::AfterName(made))
@@ -262,9 +262,9 @@ pub(crate) fn build_variant_end(
     }
 }
 
-fn first_names(alloc: Global, _values: &mut Values) -> Result<Value, NoMem>
-    requires { CanMake N.Names 0 _values.old }
-    ensures { IfOk result (λ it. IsMade N.Names 0 _values.old it _values.new) }
+fn first_names(alloc: Global, values: &mut Values) -> Result<Value, NoMem>
+    requires { CanMake N.Names 0 values.old }
+    ensures { IfOk result (λ it. IsMade N.Names 0 values.old it values.new) }
 {
     Ok(Value::Names(FrontList::new(alloc)))
 }
@@ -291,9 +291,9 @@ pub(crate) fn build_names(alloc: Global, index: usize, values: &mut Values) -> R
     }
 }
 
-fn first_fields(alloc: Global, _values: &mut Values) -> Result<Value, NoMem>
-    requires { CanMake N.Fields 0 _values.old }
-    ensures { IfOk result (λ it. IsMade N.Fields 0 _values.old it _values.new) }
+fn first_fields(alloc: Global, values: &mut Values) -> Result<Value, NoMem>
+    requires { CanMake N.Fields 0 values.old }
+    ensures { IfOk result (λ it. IsMade N.Fields 0 values.old it values.new) }
 {
     Ok(Value::Fields(FrontList::new(alloc)))
 }

@@ -15,9 +15,9 @@ use raw_values::taking as take;
 use raw_values::value::{Value, Values};
 use std::alloc::Global;
 
-fn first_definitions(alloc: Global, _values: &mut Values) -> Result<Value, NoMem>
-    requires { CanMake N.Definitions 0 _values.old }
-    ensures { IfOk result (λ it. IsMade N.Definitions 0 _values.old it _values.new) }
+fn first_definitions(alloc: Global, values: &mut Values) -> Result<Value, NoMem>
+    requires { CanMake N.Definitions 0 values.old }
+    ensures { IfOk result (λ it. IsMade N.Definitions 0 values.old it values.new) }
 {
     Ok(Value::Definitions(FrontList::new(alloc)))
 }
@@ -169,9 +169,9 @@ pub(crate) fn build_definition_name(
     }
 }
 
-fn first_name_end(_values: &mut Values) -> Result<Value, NoMem>
-    requires { CanMake N.NameEnd 0 _values.old }
-    ensures { IfOk result (λ it. IsMade N.NameEnd 0 _values.old it _values.new) }
+fn first_name_end(values: &mut Values) -> Result<Value, NoMem>
+    requires { CanMake N.NameEnd 0 values.old }
+    ensures { IfOk result (λ it. IsMade N.NameEnd 0 values.old it values.new) }
 {
     Ok(Value::NameEnd(no_end()))
 }
@@ -234,9 +234,9 @@ pub(crate) fn build_name_part(
     }
 }
 
-fn first_back_end(_values: &mut Values) -> Result<Value, NoMem>
-    requires { CanMake N.BackEnd 0 _values.old }
-    ensures { IfOk result (λ it. IsMade N.BackEnd 0 _values.old it _values.new) }
+fn first_back_end(values: &mut Values) -> Result<Value, NoMem>
+    requires { CanMake N.BackEnd 0 values.old }
+    ensures { IfOk result (λ it. IsMade N.BackEnd 0 values.old it values.new) }
 {
     Ok(Value::BackEnd(no_back()))
 }
@@ -266,9 +266,9 @@ pub(crate) fn build_back_end(
     }
 }
 
-fn first_implicit_parameters(alloc: Global, _values: &mut Values) -> Result<Value, NoMem>
-    requires { CanMake N.ImplicitParameters 0 _values.old }
-    ensures { IfOk result (λ it. IsMade N.ImplicitParameters 0 _values.old it _values.new) }
+fn first_implicit_parameters(alloc: Global, values: &mut Values) -> Result<Value, NoMem>
+    requires { CanMake N.ImplicitParameters 0 values.old }
+    ensures { IfOk result (λ it. IsMade N.ImplicitParameters 0 values.old it values.new) }
 {
     Ok(Value::Names(FrontList::new(alloc)))
 }
@@ -303,9 +303,9 @@ pub(crate) fn build_implicit_parameters(
     }
 }
 
-fn first_parameters(alloc: Global, _values: &mut Values) -> Result<Value, NoMem>
-    requires { CanMake N.Parameters 0 _values.old }
-    ensures { IfOk result (λ it. IsMade N.Parameters 0 _values.old it _values.new) }
+fn first_parameters(alloc: Global, values: &mut Values) -> Result<Value, NoMem>
+    requires { CanMake N.Parameters 0 values.old }
+    ensures { IfOk result (λ it. IsMade N.Parameters 0 values.old it values.new) }
 {
     Ok(Value::Fields(FrontList::new(alloc)))
 }

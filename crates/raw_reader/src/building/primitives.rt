@@ -152,9 +152,9 @@ pub(crate) fn build_in_memory(
     }
 }
 
-fn first_replace_end(_values: &mut Values) -> Result<Value, NoMem>
-    requires { CanMake N.ReplaceEnd 0 _values.old }
-    ensures { IfOk result (λ it. IsMade N.ReplaceEnd 0 _values.old it _values.new) }
+fn first_replace_end(values: &mut Values) -> Result<Value, NoMem>
+    requires { CanMake N.ReplaceEnd 0 values.old }
+    ensures { IfOk result (λ it. IsMade N.ReplaceEnd 0 values.old it values.new) }
 {
     Ok(Value::OperationEnd(no_operation()))
 }
@@ -184,9 +184,9 @@ pub(crate) fn build_replace_end(
     }
 }
 
-fn first_swap_end(_values: &mut Values) -> Result<Value, NoMem>
-    requires { CanMake N.SwapEnd 0 _values.old }
-    ensures { IfOk result (λ it. IsMade N.SwapEnd 0 _values.old it _values.new) }
+fn first_swap_end(values: &mut Values) -> Result<Value, NoMem>
+    requires { CanMake N.SwapEnd 0 values.old }
+    ensures { IfOk result (λ it. IsMade N.SwapEnd 0 values.old it values.new) }
 {
     Ok(Value::OperationEnd(no_operation()))
 }
