@@ -3,6 +3,8 @@
 
 mod building;
 mod builds;
+#[cfg(test)]
+mod tests;
 mod ways;
 mod words;
 
