@@ -4,8 +4,8 @@ use Rattle.raw_ast.specs.Code.{nodes_rawcode}
 use Rattle.raw_ast.specs.CodeFalls.{nodes_waiting}
 use Rattle.raw_ast.proofs.code.RawCode.+drop.Given as goal
 
-abbrev pub invariant-loop-comp : goal.invariant-loop-comp
-invariant-loop-comp l = nodes_rawcode l.self + nodes_waiting l.left ≤ nodes_rawcode l.fn.self
+abbrev pub invariant-loop-variable : goal.invariant-loop-variable
+invariant-loop-variable l = nodes_rawcode l.self + nodes_waiting l.left ≤ nodes_rawcode l.fn.self
 
-abbrev pub decreases-loop-comp : goal.decreases-loop-comp
-decreases-loop-comp l = (nodes_rawcode l.self + nodes_waiting l.left) * (nodes_rawcode l.fn.self + 1) + nodes_rawcode l.self
+abbrev pub decreases-loop-variable : goal.decreases-loop-variable
+decreases-loop-variable l = (nodes_rawcode l.self + nodes_waiting l.left) * (nodes_rawcode l.fn.self + 1) + nodes_rawcode l.self
