@@ -1,6 +1,28 @@
 #!/usr/bin/env python3
-"""Writes what each production of the grammar of printed texts is read as, and how its value is built: text_ways.py, and
-then `rt fmt`. Reads text_ways.desc.py and the grammar that it names."""
+"""Writes the crates by which the generic engine of tables will read printed texts: text_ways.py, then `rt fmt` in each
+
+Reads text_ways.desc.py (what each production is read as) and text_grammar.desc.py (the productions), and writes into crates/
+
+    raw_values    what parts are read as, and how such values are taken off a stack (value.rt, taking.rt, Carriers.antt)
+    raw_reader    what each production makes (Makes.antt), a function for each production and for each part that builds it
+                  (building/*.rt), and the answers to the goals of those that choose a production (proofs/building/*)
+
+Files that are written by hand stand in tools/text_ways/ with `.txt` after their names, and are copied: the ways themselves
+(raw_reader/src/ways/*, specs/Ways.antt), the rests of parts, the class of a lexeme and what a lexeme of a class is
+(text_syntax), and definitions for what comes after reading (raw_meaning): what a text declares, the rules beside the grammar
+with the places where they are broken, the definitions that a text stands for, and the lexemes that it consists of.
+
+The crates want these lines in crates.txt, after text_table and raw_ast:
+
+    raw_values: aen_base raw_ast table_reader text_table
+    raw_reader: aen_base pure_ast raw_ast raw_values table_reader text_table
+    text_syntax: aen_base text_meaning text_table text_tokens
+    raw_meaning: aen_base pure_ast raw_ast text_meaning text_tokens
+
+Of what is written nothing has been checked yet; text_table, which it reads by, is proved. Names of goals in the answers
+(`in-eq0.is`, `returns-in-eq0`, `in-Text.is`) are guesses from a language of two lines, to be changed in `answers` and
+`build_answers`.
+"""
 import os
 import re
 import sys
@@ -427,7 +449,17 @@ def write(name, text, crate=CRATE):
     open(path, "w", encoding="utf-8").write(text)
 
 
+def copy_by_hand():
+    """Copies the files that are written by hand."""
+    top = os.path.join(HERE, "text_ways")
+    for folder, _, names in os.walk(top):
+        for name in names:
+            crate, _, path = os.path.relpath(os.path.join(folder, name), top)[:-len(".txt")].partition(os.sep)
+            write(path, open(os.path.join(folder, name), encoding="utf-8").read(), crate)
+
+
 def main():
+    copy_by_hand()
     write("specs/Carriers.antt", carriers(), VALUES)
     write("specs/Makes.antt", makes())
     write("src/value.rt", value(), VALUES)

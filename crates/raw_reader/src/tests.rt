@@ -45,10 +45,52 @@ fn lexemes(alloc: Global, words: &[&str]) -> Result<List<Lexeme>, NoMem> {
 #[test]
 fn a_text_is_read(rt: HostRuntime) -> Result<(), NoMem> {
     let words = [
-        "import", "AenPrelude", "open", "AenPrelude", "def", "fn", ".", "f", "(", "n", ":", "Nat",
-        ")", "(", "v0", ":", "U32", ")", ":", "Result", "U32", ":=", "match", "n", "with", "|", "0",
-        "=>", "outOfFuel", "|", "n", "+", "1", "=>", "do", "let", "v1", "<-", "U32", ".", "add",
-        "v0", "v0", ";", "ok", "v1",
+        "import",
+        "AenPrelude",
+        "open",
+        "AenPrelude",
+        "def",
+        "fn",
+        ".",
+        "f",
+        "(",
+        "n",
+        ":",
+        "Nat",
+        ")",
+        "(",
+        "v0",
+        ":",
+        "U32",
+        ")",
+        ":",
+        "Result",
+        "U32",
+        ":=",
+        "match",
+        "n",
+        "with",
+        "|",
+        "0",
+        "=>",
+        "outOfFuel",
+        "|",
+        "n",
+        "+",
+        "1",
+        "=>",
+        "do",
+        "let",
+        "v1",
+        "<-",
+        "U32",
+        ".",
+        "add",
+        "v0",
+        "v0",
+        ";",
+        "ok",
+        "v1",
     ];
     let lexemes = lexemes(rt.alloc(), &words)?;
     let Ok(Value::Text(text)) = read::<TextReader>(rt.alloc(), Part::Text, lexemes.as_slice())?
@@ -63,7 +105,15 @@ fn a_text_is_read(rt: HostRuntime) -> Result<(), NoMem> {
 
 #[test]
 fn a_fault_has_its_place(rt: HostRuntime) -> Result<(), NoMem> {
-    let words = ["import", "AenPrelude", "open", "AenPrelude", "def", "fn", "f"];
+    let words = [
+        "import",
+        "AenPrelude",
+        "open",
+        "AenPrelude",
+        "def",
+        "fn",
+        "f",
+    ];
     let lexemes = lexemes(rt.alloc(), &words)?;
     match read::<TextReader>(rt.alloc(), Part::Text, lexemes.as_slice())? {
         Ok(_value) => assert!(rt; false),
