@@ -1,5 +1,5 @@
 #!/usr/bin/env bash
-# Writes the trees of crates/raw_ast/specs from tools/raw_ast.desc.py.
+# Writes the trees of crates/raw_ast/specs from tools/raw_ast.desc.py (then rt fmt and rt tidy there).
 set -eu
 cd "$(dirname "$0")/.."
 for tree in Types Atoms Code; do

@@ -19,7 +19,7 @@ The crates want these lines in crates.txt, after text_table and raw_ast:
     text_syntax: aen_base text_meaning text_table text_tokens
     raw_meaning: aen_base pure_ast raw_ast text_meaning text_tokens
 
-Of what is written nothing has been checked yet; text_table, which it reads by, is proved. Names of goals in the answers
+Of what is written nothing has been checked yet; text_table and raw_ast, on which it stands, are proved. Names of goals in the answers
 (`in-eq0.is`, `returns-in-eq0`, `in-Text.is`) are guesses from a language of two lines, to be changed in `answers` and
 `build_answers`.
 """

@@ -1,7 +1,7 @@
 -- The atoms of a printed text as they are spelled (TEXT.md, "Grammar").
 -- Made by tools/trees.py from tools/raw_ast.desc.py.
 use Rattle.std.specs.Prelude.{◌≡◌, ℕ, zero, suc, ◌+◌, Bool, List, [], ◌∷◌, refl}
-use Rattle.std.specs.Coded.{Coded, coded_ℕ, coded_bool}
+use Rattle.std.specs.Coded.{Coded, coded_bool}
 use Rattle.std.proofs.Common.{ap, sym, ◌∙◌, subst}
 use base.Stored.{Gv, gnil, gnum, gcons, num}
 use Rattle.raw_ast.specs.declared.spelling.Spelling.{Spelling}
