@@ -34,6 +34,7 @@ class Description:
         exec(open(path, encoding="utf-8").read(), values)
         self.crate, self.title, self.start = values["CRATE"], values["TITLE"], values["START"]
         self.parameters, self.variables = values.get("PARAMETERS", {}), values.get("VARIABLES", {})
+        self.spells_marks = values.get("SPELLS_MARKS", True)
         self.read_classes(values["CLASSES"])
         self.read_sets(values["SETS"])
         self.read_functions(values.get("FUNCTIONS", ""))
@@ -54,7 +55,11 @@ class Description:
         return [w for w in self.spelled if w[0].isalpha()]
 
     def marks(self):
-        return [w for w in self.spelled if not w[0].isalpha()]
+        return [w for w in self.spelled if not w[0].isalpha()] if self.spells_marks else []
+
+    def written(self):
+        """The spellings that are told, with their classes."""
+        return {w: self.spelled[w] for w in self.spelled if w[0].isalpha() or self.spells_marks}
 
     def read_sets(self, text):
         self.sets, self.set_docs = {}, {}

@@ -133,9 +133,10 @@ pub(crate) fn classes_of(terminal: Terminal) -> &'static [Class]
 {arms}    }}
 }}
 """
-        arms = "".join(f'        Class::{c} => "{w}",\n' for w, c in d.spelled.items())
+        arms = "".join(f'        Class::{c} => "{w}",\n' for w, c in d.written().items())
         listed = lambda name, words: f"pub(crate) const {name}: &[Class] = &[{', '.join('Class::' + d.spelled[w] for w in words)}];\n"
-        yield "src/spellings.rt", f"""//! How words and marks are spelled. {NOTE}
+        marks = f"/// The classes of marks.\n{listed('MARKS', d.marks())}\n" if d.spells_marks else ""
+        yield "src/spellings.rt", f"""//! How words {'and marks ' if d.spells_marks else ''}are spelled. {NOTE}
 
 ghost use Rattle.std.specs.Prelude.{{◌≡◌}};
 ghost use Rattle.{d.crate}.specs.Classes as grammar;
@@ -144,9 +145,7 @@ use crate::class::Class;
 
 /// The classes of words, and of identifiers with a class of their own.
 {listed("NAMES", d.words())}
-/// The classes of marks.
-{listed("MARKS", d.marks())}
-/// How the lexemes of a class are spelled, where it has one spelling; else nothing.
+{marks}/// How the lexemes of a class are spelled, where it has one spelling; else nothing.
 pub fn spelling(class: Class) -> &'static str
     ensures {{ result.now ≡ grammar.spelling class }}
 {{
@@ -275,10 +274,11 @@ abbrev pub classes : Terminal → List Class
             first = d.of_token[t][-1 if t == "TypesEnd" else 0]
             text += f"sample_class T.{t} = C.{first}\n"
         text += "\n-- how lexemes of a class are spelled, where it has one spelling\nabbrev pub spelling : Class → List ℕ\n"
-        text += "".join(f'spelling C.{c} = codes "{w}"\n' for w, c in d.spelled.items()) + "spelling c = []\n"
+        text += "".join(f'spelling C.{c} = codes "{w}"\n' for w, c in d.written().items()) + "spelling c = []\n"
         listed = lambda words: "".join(f"C.{d.spelled[w]} ∷ " for w in words) + "[]\n"
         text += "\n-- the classes of words, and of identifiers with a class of their own\nabbrev pub names : List Class\nnames = " + listed(d.words())
-        text += "\n-- the classes of marks\nabbrev pub marks : List Class\nmarks = " + listed(d.marks())
+        if d.spells_marks:
+            text += "\n-- the classes of marks\nabbrev pub marks : List Class\nmarks = " + listed(d.marks())
         yield "specs/Classes.antt", text
 
     def follow(self):

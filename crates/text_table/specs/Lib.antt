@@ -1,0 +1,10 @@
+pub mod Classes
+pub mod Productions
+pub mod Spelled
+pub mod Lexemes
+pub mod Follow
+pub mod Shortest
+pub mod Apart
+pub mod PartsFit
+pub mod Ends
+pub mod Fit
