@@ -1,0 +1,26 @@
+//! Prints a program as a source that is read as the same program (docs/LANGUAGE.md, "Grammar").
+#![tactic(auto)]
+
+mod expressions;
+mod forms;
+mod items;
+mod patterns;
+mod put;
+mod types;
+mod words;
+
+ghost use Rattle.std.specs.Prelude.{◌≡◌, IfOk};
+ghost use Rattle.rust_printer.specs.Shown.{shown};
+
+use aen_base::{NoMem, Text};
+use rust_ast::Program;
+use std::alloc::Global;
+
+/// The text of a program, in time linear in its length. The only error is want of memory.
+pub fn print(alloc: Global, program: &Program) -> Result<Text, NoMem>
+    ensures layout { IfOk result (λ t. t ≡ shown program.now) }
+{
+    let mut out = String::new(alloc);
+    items::put_items(&mut out, program.items.as_slice())?;
+    Ok(Text::new(out))
+}
