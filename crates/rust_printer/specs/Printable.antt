@@ -1,0 +1,42 @@
+-- What is kept by every program that is read: names that their places allow, and the forms that the grammar gives.
+use Rattle.std.specs.Prelude.{◌≡◌, ◌⊎◌, ℕ, Bool, true, false, List, [], ◌∷◌, Option, Some, None, bytes_eq, codes, drop}
+use Rattle.aen_base.specs.declared.span.Span.{Span}
+use Rattle.rust_ast.specs.declared.ident.Ident.{Ident}
+use Rattle.rust_ast.specs.SourceTypes as t
+use Rattle.rust_ast.specs.SourcePatterns as p
+use Rattle.source_grammar.specs.declared.class.Class.{Class}
+use Rattle.source_grammar.specs.declared.class.Class.TheVariants as C
+use Rattle.source_grammar.specs.declared.terminal.Terminal.TheVariants as T
+use Rattle.source_grammar.specs.Lexemes.{has_class}
+use Rattle.source_grammar.specs.Spelled.{class_named}
+
+-- no word
+abbrev pub IsName : List ℕ → Type 0
+IsName name = has_class T.Identifier (class_named name C.Other) ≡ true
+
+abbrev pub IsLifetimeName : List ℕ → Type 0
+IsLifetimeName name = name ≡ 39 ∷ drop 1 name
+
+abbrev pub IsLifetime : t.Lifetime → Type 0
+IsLifetime t.elided = Unit {0}
+IsLifetime (t.lifetime name) = IsLifetimeName name.name
+
+-- two parts at least
+abbrev pub AreTwoTypes : t.Writtens → Type 0
+AreTwoTypes t.no_writtens = ⊥
+AreTwoTypes (t.more_writtens ty t.no_writtens) = ⊥
+AreTwoTypes (t.more_writtens ty (t.more_writtens next rest)) = Unit {0}
+
+abbrev mutual
+  pub IsType : t.Written → Type 0
+  IsType (t.int span ty) = Unit {0}
+  IsType (t.bool span) = Unit {0}
+  IsType (t.unit span) = Unit {0}
+  IsType (t.tuple span parts) = AreTwoTypes parts × AreTypes parts
+  IsType (t.ref span life mutable ty) = IsLifetime life × IsType ty
+  IsType (t.boxed span ty) = IsType ty
+  IsType (t.named span name args) = IsName name.name × AreTypes args
+
+  pub AreTypes : t.Writtens → Type 0
+  AreTypes t.no_writtens = Unit {0}
+  AreTypes (t.more_writtens ty rest) = IsType ty × AreTypes rest
