@@ -14,7 +14,7 @@ use Rattle.rust_ast.specs.SourceTypes as t
 use Rattle.rust_reader.specs.declared.generics.Generics.{Generics}
 use Rattle.rust_reader.specs.Carriers.{Field}
 use Rattle.rust_reader.specs.declared.spanned.Spanned.{Spanned}
-use Rattle.rust_reader.specs.Says.{ident, lifetime_ident}
+use Rattle.rust_reader.specs.Says.{ident}
 
 abbrev pub first_item : Span → Spanned Item → Spanned (List Item) → List Item
 first_item whole x more = x.value ∷ more.value
@@ -48,7 +48,7 @@ abbrev pub no_generics : Generics
 no_generics = record { lifetimes = []; type_params = [] }
 
 abbrev pub first_lifetime : Span → Lexeme → Spanned Generics → Generics
-first_lifetime whole life more = record { lifetimes = lifetime_ident life ∷ more.value.lifetimes; type_params = more.value.type_params }
+first_lifetime whole life more = record { lifetimes = ident life ∷ more.value.lifetimes; type_params = more.value.type_params }
 
 abbrev pub first_type_parameter : Span → Lexeme → Spanned (List Ident) → Generics
 first_type_parameter whole name more = record { lifetimes = []; type_params = ident name ∷ more.value }

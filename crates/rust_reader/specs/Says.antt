@@ -1,5 +1,5 @@
 -- What lexemes say beside their class (LANGUAGE.md, "Tokens").
-use Rattle.std.specs.Prelude.{ℕ, Bool, List, [], ◌∷◌, Option, None, if◌then◌else◌}
+use Rattle.std.specs.Prelude.{ℕ, Bool, List, [], Option, None, if◌then◌else◌}
 use denote.Enum.Bare.{sameb}
 use Rattle.aen_base.specs.declared.int_ty.IntTy.{IntTy}
 use Rattle.aen_base.specs.declared.int_ty.IntTy.TheVariants as ints
@@ -12,7 +12,7 @@ use Rattle.source_grammar.specs.declared.lexeme.Content.{Content}
 use Rattle.source_grammar.specs.declared.lexeme.Content.TheVariants as says
 use Rattle.source_grammar.specs.declared.lexeme.Lexeme.{Lexeme}
 
--- an identifier's name, a lifetime's after its `'`, or digits
+-- an identifier's name, a lifetime's with its `'`, or digits
 abbrev pub name_in : Content → List ℕ
 name_in (says.Name name) = name
 name_in content = []
@@ -30,17 +30,13 @@ int_type_in content = ints.U8
 abbrev pub is_class : Class → Class → Bool
 is_class a b = sameb cls.the_type a b
 
--- an identifier where it stands
+-- an identifier or a lifetime where it stands
 abbrev pub ident : Lexeme → Ident
 ident l = record { name = name_in l.content; span = l.span }
 
--- a lifetime where it stands: its name begins with `'`
-abbrev pub lifetime_ident : Lexeme → Ident
-lifetime_ident l = record { name = 39 ∷ name_in l.content; span = l.span }
-
 -- `'_` is no lifetime with a name
 abbrev pub lifetime : Lexeme → t.Lifetime
-lifetime l = if is_class l.class C.Elided then t.elided else t.lifetime (lifetime_ident l)
+lifetime l = if is_class l.class C.Elided then t.elided else t.lifetime (ident l)
 
 -- of `true` and `false`
 abbrev pub truth : Lexeme → Bool

@@ -55,27 +55,13 @@ pub(crate) fn int_type_in(content: Content) -> IntTy
     }
 }
 
-/// An identifier where it stands. The only error is want of memory.
+/// An identifier or a lifetime where it stands. The only error is want of memory.
 pub(crate) fn ident(alloc: Global, lexeme: Lexeme) -> Result<Ident, NoMem>
     ensures { IfOk result (λ it. it ≡ spec.ident lexeme) }
 {
     let span = lexeme.span;
     let name = name_in(alloc, lexeme.content)?;
     Ok(Ident { name, span })
-}
-
-/// A lifetime where it stands; its name begins with `'`. The only error is want of memory.
-pub(crate) fn lifetime_ident(alloc: Global, lexeme: Lexeme) -> Result<Ident, NoMem>
-    ensures { IfOk result (λ it. it ≡ spec.lifetime_ident lexeme) }
-{
-    let span = lexeme.span;
-    let name = name_in(alloc, lexeme.content)?;
-    let mut text = String::from_str(alloc, "'")?;
-    text.push_str(name.as_str())?;
-    Ok(Ident {
-        name: Name::new(text),
-        span,
-    })
 }
 
 /// The lifetime of a reference. The only error is want of memory.
@@ -85,7 +71,7 @@ pub(crate) fn lifetime(alloc: Global, lexeme: Lexeme) -> Result<Lifetime, NoMem>
     let node = if is_class(lexeme.class, Class::Elided) {
         LifetimeNode::Elided
     } else {
-        LifetimeNode::Lifetime(lifetime_ident(alloc, lexeme)?)
+        LifetimeNode::Lifetime(ident(alloc, lexeme)?)
     };
     Ok(Lifetime { node })
 }
