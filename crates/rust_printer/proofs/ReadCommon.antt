@@ -37,9 +37,9 @@ pub record Read (n : Part) (holds : Carried n → Type 0) (more : List Tok) (ls 
   pub is : holds value.value
   pub left : Laid at more rest
 
-pub read_by : {n : Part} {holds : Carried n → Type 0} {more : List Tok} {ls us : List Lexeme} {at : ℕ} (m : Made n) → IsOneOf m (made n) → (vs : Values m.symbols) →
+pub read_by : {n : Part} {holds : Carried n → Type 0} {more : List Tok} {ls : List Lexeme} {at : ℕ} (m : Made n) → IsOneOf m (made n) → (vs : Values m.symbols) (us : List Lexeme) →
     ReadsAll m.symbols ls us vs → holds (m.make vs).value → Laid at more us → Read n holds more ls
-read_by {us} {at} m one vs r h left = record { at = at; rest = us; value = m.make vs; reads = R.by m one vs r; is = h; left = left }
+read_by {at} m one vs us r h left = record { at = at; rest = us; value = m.make vs; reads = R.by m one vs r; is = h; left = left }
 
 whole_if : (a b : Bool) (x : Take Lexeme) → a ≡ true → b ≡ false → (if a then (if b then x else K.Whole) else K.No) ≡ K.Whole
 whole_if true false x p q = refl

@@ -14,13 +14,6 @@ use Rattle.source_grammar.specs.Spelled.{class_named}
 abbrev pub IsName : List ℕ → Type 0
 IsName name = has_class T.Identifier (class_named name C.Other) ≡ true
 
-abbrev pub IsLifetimeName : List ℕ → Type 0
-IsLifetimeName name = name ≡ 39 ∷ drop 1 name
-
-abbrev pub IsLifetime : t.Lifetime → Type 0
-IsLifetime t.elided = Unit {0}
-IsLifetime (t.lifetime name) = IsLifetimeName name.name
-
 -- two parts at least
 abbrev pub AreTwoTypes : t.Writtens → Type 0
 AreTwoTypes t.no_writtens = ⊥
@@ -33,10 +26,23 @@ abbrev mutual
   IsType (t.bool span) = Unit {0}
   IsType (t.unit span) = Unit {0}
   IsType (t.tuple span parts) = AreTwoTypes parts × AreTypes parts
-  IsType (t.ref span life mutable ty) = IsLifetime life × IsType ty
+  IsType (t.ref span life mutable ty) = IsType ty
   IsType (t.boxed span ty) = IsType ty
   IsType (t.named span name args) = IsName name.name × AreTypes args
 
   pub AreTypes : t.Writtens → Type 0
   AreTypes t.no_writtens = Unit {0}
   AreTypes (t.more_writtens ty rest) = IsType ty × AreTypes rest
+
+abbrev pub IsTurbo : t.Turbo → Type 0
+IsTurbo t.no_turbo = Unit {0}
+IsTurbo (t.turbo tys) = AreTypes tys
+
+-- not `mem::replace` or `mem::swap`
+abbrev pub IsNoBuiltIn : List ℕ → List ℕ → Type 0
+IsNoBuiltIn first second = class_named first C.Other ≡ C.Mem → has_class T.NotSwap (class_named second C.Other) ≡ true
+
+abbrev pub IsPath : t.Path → Type 0
+IsPath (t.one name) = IsName name.name
+IsPath (t.two first tys second) = IsName first.name × (IsTurbo tys × (IsName second.name × (tys ≡ t.no_turbo → IsNoBuiltIn first.name second.name)))
+IsPath path = Unit {0}

@@ -63,7 +63,7 @@ class_of (placed name) = if is_place name then C.Digits else class_named name C.
 abbrev pub content_of : Tok → Content
 content_of (mark c) = says.Nothing
 content_of (named name) = says.Name name
-content_of (lifetime name) = says.Name (drop 1 name)
+content_of (lifetime name) = says.Name name
 content_of (int ty) = says.Int ty
 content_of (number size suffix) = says.Number size suffix
 content_of (placed name) = says.Name name
