@@ -75,7 +75,7 @@ mutual
 
   pub stmt_spelled : (x : s.Stmt) (more : List Tok) → spelled (stmt_tokens x more) ≡ stmt_text x ++ spelled more
   stmt_spelled (s.run e true) more = simp (unless_spelled (is_operand e) (expr_tokens e) (expr_text e) (expr_spelled e), append_assoc) refl
-  stmt_spelled (s.run e false) more = expr_spelled e more
+  stmt_spelled (s.run e false) more = simp (expr_spelled e, append_assoc) refl
   stmt_spelled (s.bind span pat ty value) more = simp (pattern_spelled pat, type_of_let_spelled ty, given_spelled value, append_assoc) refl
 
   pub given_spelled : (x : s.MaybeExpr) (more : List Tok) → spelled (given_tokens x more) ≡ given_text x ++ spelled more

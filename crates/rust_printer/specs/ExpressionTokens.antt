@@ -76,7 +76,7 @@ abbrev mutual
 
   pub stmt_tokens : s.Stmt → List Tok → List Tok
   stmt_tokens (s.run e true) more = in_brackets_unless (is_operand e) (expr_tokens e) (mark C.Semicolon ∷ more)
-  stmt_tokens (s.run e false) more = expr_tokens e more
+  stmt_tokens (s.run e false) more = expr_tokens e (mark C.Semicolon ∷ more)
   stmt_tokens (s.bind span pat ty value) more = mark C.Let ∷ pattern_tokens pat (type_of_let_tokens ty (given_tokens value (mark C.Semicolon ∷ more)))
 
   -- the value of a `let`

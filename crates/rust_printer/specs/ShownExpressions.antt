@@ -76,7 +76,7 @@ abbrev mutual
 
   pub stmt_text : s.Stmt → List ℕ
   stmt_text (s.run e true) = unless (is_operand e) (expr_text e) ++ codes "; "
-  stmt_text (s.run e false) = expr_text e
+  stmt_text (s.run e false) = expr_text e ++ codes "; "
   stmt_text (s.bind span pat ty value) = codes "let " ++ (pattern_text pat ++ (type_of_let ty ++ (given_text value ++ codes "; ")))
 
   -- the value of a `let`

@@ -345,7 +345,8 @@ fn put_run(out: &mut String, expr: &Expr, ended: bool) -> Result<(), NoMem>
         put_operand(out, expr)?;
         return Ok(put(out, "; ")?);
     }
-    Ok(put_expr(out, expr)?)
+    put_expr(out, expr)?;
+    Ok(put(out, "; ")?)
 }
 
 /// Adds the value of a `let`.

@@ -10,15 +10,17 @@ mod types;
 mod words;
 
 ghost use Rattle.std.specs.Prelude.{◌≡◌, IfOk};
-ghost use Rattle.rust_printer.specs.Shown.{shown};
+ghost use Rattle.rust_printer.specs.Tok.{spelled};
+ghost use Rattle.rust_printer.specs.Tokens.{program_tokens};
 
 use aen_base::{NoMem, Text};
 use rust_ast::Program;
 use std::alloc::Global;
 
-/// The text of a program, in time linear in its length. The only error is want of memory.
+/// The text of a program, in time linear in its length: its tokens, each with a blank after it but for
+/// the dot of a field. The only error is want of memory.
 pub fn print(alloc: Global, program: &Program) -> Result<Text, NoMem>
-    ensures layout { IfOk result (λ t. t ≡ shown program.now) }
+    ensures { IfOk result (λ t. t ≡ spelled (program_tokens program.now)) }
 {
     let mut out = String::new(alloc);
     items::put_items(&mut out, program.items.as_slice())?;
