@@ -46,3 +46,32 @@ abbrev pub IsPath : t.Path → Type 0
 IsPath (t.one name) = IsName name.name
 IsPath (t.two first tys second) = IsName first.name × (IsTurbo tys × (IsName second.name × (tys ≡ t.no_turbo → IsNoBuiltIn first.name second.name)))
 IsPath path = Unit {0}
+
+-- no parts, or two at least
+abbrev pub AreNotOnePattern : p.Pats → Type 0
+AreNotOnePattern p.no_pats = Unit {0}
+AreNotOnePattern (p.more_pats pat p.no_pats) = ⊥
+AreNotOnePattern (p.more_pats pat (p.more_pats next rest)) = Unit {0}
+
+abbrev mutual
+  pub IsPattern : p.Pat → Type 0
+  IsPattern (p.wild span) = Unit {0}
+  IsPattern (p.lone name) = IsName name.name
+  IsPattern (p.mut_bind span name) = IsName name.name
+  IsPattern (p.number span negative size suffix) = Unit {0}
+  IsPattern (p.truth span value) = Unit {0}
+  IsPattern (p.tuple span parts) = AreNotOnePattern parts × ArePatterns parts
+  IsPattern (p.construct span path parts) = IsPath path × ArePatterns parts
+  IsPattern (p.literal span path parts) = IsPath path × AreFieldPatterns parts
+
+  pub IsFieldPattern : p.FieldPat → Type 0
+  IsFieldPattern (p.short name) = IsName name.name
+  IsFieldPattern (p.given span name pat) = IsName name × IsPattern pat
+
+  pub ArePatterns : p.Pats → Type 0
+  ArePatterns p.no_pats = Unit {0}
+  ArePatterns (p.more_pats pat rest) = IsPattern pat × ArePatterns rest
+
+  pub AreFieldPatterns : p.FieldPats → Type 0
+  AreFieldPatterns p.no_fieldpats = Unit {0}
+  AreFieldPatterns (p.more_fieldpats pat rest) = IsFieldPattern pat × AreFieldPatterns rest
