@@ -4,11 +4,15 @@ use Rattle.aen_base.specs.declared.span.Span.{Span}
 use Rattle.rust_ast.specs.declared.ident.Ident.{Ident}
 use Rattle.rust_ast.specs.SourceTypes as t
 use Rattle.rust_ast.specs.SourcePatterns as p
+use Rattle.rust_ast.specs.Source as s
 use Rattle.source_grammar.specs.declared.class.Class.{Class}
 use Rattle.source_grammar.specs.declared.class.Class.TheVariants as C
 use Rattle.source_grammar.specs.declared.terminal.Terminal.TheVariants as T
 use Rattle.source_grammar.specs.Lexemes.{has_class}
 use Rattle.source_grammar.specs.Spelled.{class_named}
+use Rattle.rust_reader.specs.Blocks.{only_value}
+use Rattle.rust_printer.specs.Bare.{bare_expr, nowhere}
+use Rattle.rust_printer.specs.Tok.{is_place}
 
 -- no word
 abbrev pub IsName : List ℕ → Type 0
@@ -75,3 +79,148 @@ abbrev mutual
   pub AreFieldPatterns : p.FieldPats → Type 0
   AreFieldPatterns p.no_fieldpats = Unit {0}
   AreFieldPatterns (p.more_fieldpats pat rest) = IsFieldPattern pat × AreFieldPatterns rest
+
+-- what ends at its last brace
+abbrev pub is_block_like : s.Expr → Bool
+is_block_like (s.number a0 a1 a2 a3) = false
+is_block_like (s.truth a0 a1) = false
+is_block_like (s.tuple a0 a1) = false
+is_block_like (s.inner a0) = true
+is_block_like (s.branch a0 a1 a2 a3) = true
+is_block_like (s.select a0 a1 a2) = true
+is_block_like (s.let_branch a0 a1 a2 a3 a4) = true
+is_block_like (s.forever a0 a1 a2) = true
+is_block_like (s.panic a0) = false
+is_block_like (s.path a0 a1) = false
+is_block_like (s.call a0 a1 a2 a3) = false
+is_block_like (s.literal a0 a1 a2 a3) = false
+is_block_like (s.field a0 a1 a2 a3) = false
+is_block_like (s.minus a0 a1) = false
+is_block_like (s.negation a0 a1) = false
+is_block_like (s.deref a0 a1) = false
+is_block_like (s.borrow a0 a1 a2) = false
+is_block_like (s.binary a0 a1 a2 a3) = false
+is_block_like (s.compare a0 a1 a2 a3) = false
+is_block_like (s.both a0 a1 a2) = false
+is_block_like (s.either a0 a1 a2) = false
+is_block_like (s.cast a0 a1 a2) = false
+is_block_like (s.assign a0 a1 a2) = false
+is_block_like (s.update a0 a1 a2 a3) = false
+is_block_like (s.give a0 a1) = false
+is_block_like (s.leave a0 a1) = false
+is_block_like (s.go_on a0) = false
+
+-- what may stand after `else`
+abbrev pub is_else : s.Expr → Bool
+is_else (s.number a0 a1 a2 a3) = false
+is_else (s.truth a0 a1) = false
+is_else (s.tuple a0 a1) = false
+is_else (s.inner a0) = true
+is_else (s.branch a0 a1 a2 a3) = true
+is_else (s.select a0 a1 a2) = false
+is_else (s.let_branch a0 a1 a2 a3 a4) = true
+is_else (s.forever a0 a1 a2) = false
+is_else (s.panic a0) = false
+is_else (s.path a0 a1) = false
+is_else (s.call a0 a1 a2 a3) = false
+is_else (s.literal a0 a1 a2 a3) = false
+is_else (s.field a0 a1 a2 a3) = false
+is_else (s.minus a0 a1) = false
+is_else (s.negation a0 a1) = false
+is_else (s.deref a0 a1) = false
+is_else (s.borrow a0 a1 a2) = false
+is_else (s.binary a0 a1 a2 a3) = false
+is_else (s.compare a0 a1 a2 a3) = false
+is_else (s.both a0 a1 a2) = false
+is_else (s.either a0 a1 a2) = false
+is_else (s.cast a0 a1 a2) = false
+is_else (s.assign a0 a1 a2) = false
+is_else (s.update a0 a1 a2 a3) = false
+is_else (s.give a0 a1) = false
+is_else (s.leave a0 a1) = false
+is_else (s.go_on a0) = false
+
+-- the name of a field, or its place
+abbrev pub IsPlace : List ℕ → Type 0
+IsPlace name = (is_place name ≡ true) ⊎ ((is_place name ≡ false) × IsName name)
+
+abbrev pub AreNotOne : s.Exprs → Type 0
+AreNotOne s.no_exprs = Unit {0}
+AreNotOne (s.more_exprs e s.no_exprs) = ⊥
+AreNotOne (s.more_exprs e (s.more_exprs next rest)) = Unit {0}
+
+abbrev pub IsLetType : t.MaybeWritten → Type 0
+IsLetType t.no_maybewritten = Unit {0}
+IsLetType (t.some_maybewritten ty) = IsType ty
+
+-- what a `while` does where it is over
+abbrev pub leaves : s.Expr
+leaves = s.leave nowhere s.no_maybeexpr
+
+abbrev mutual
+  pub IsExpr : s.Expr → Type 0
+  IsExpr (s.number span negative size suffix) = Unit {0}
+  IsExpr (s.truth span value) = Unit {0}
+  IsExpr (s.tuple span parts) = AreNotOne parts × AreExprs parts
+  IsExpr (s.inner b) = IsBlock b
+  IsExpr (s.branch span e b other) = IsExpr e × (IsBlock b × ((is_else other ≡ true) × IsExpr other))
+  IsExpr (s.select span e arms) = IsExpr e × AreArms arms
+  IsExpr (s.let_branch span pat e b other) = IsPattern pat × (IsExpr e × (IsInner b × ((is_else other ≡ true) × IsExpr other)))
+  IsExpr (s.forever span true b) = IsWhile b
+  IsExpr (s.forever span false b) = IsBlock b
+  IsExpr (s.panic span) = Unit {0}
+  IsExpr (s.path span path) = IsPath path
+  IsExpr (s.call span path tys parts) = IsPath path × (IsTurbo tys × AreExprs parts)
+  IsExpr (s.literal span name tys parts) = IsName name.name × (IsTurbo tys × AreInits parts)
+  IsExpr (s.field span e place name) = IsExpr e × IsPlace name
+  IsExpr (s.minus span e) = IsExpr e
+  IsExpr (s.negation span e) = IsExpr e
+  IsExpr (s.deref span e) = IsExpr e
+  IsExpr (s.borrow span mutable e) = IsExpr e
+  IsExpr (s.binary span op a b) = IsExpr a × IsExpr b
+  IsExpr (s.compare span op a b) = IsExpr a × IsExpr b
+  IsExpr (s.both span a b) = IsExpr a × IsExpr b
+  IsExpr (s.either span a b) = IsExpr a × IsExpr b
+  IsExpr (s.cast span e ty) = IsExpr e
+  IsExpr (s.assign span a b) = IsExpr a × IsExpr b
+  IsExpr (s.update span op a b) = IsExpr a × IsExpr b
+  IsExpr (s.give span value) = IsMaybe value
+  IsExpr (s.leave span value) = IsMaybe value
+  IsExpr (s.go_on span) = Unit {0}
+
+  pub IsMaybe : s.MaybeExpr → Type 0
+  IsMaybe s.no_maybeexpr = Unit {0}
+  IsMaybe (s.some_maybeexpr e) = IsExpr e
+
+  pub IsInner : s.Expr → Type 0
+  IsInner (s.inner b) = IsBlock b
+  IsInner other = ⊥
+
+  pub IsWhile : s.Block → Type 0
+  IsWhile (s.block span s.no_stmts (s.some_maybeexpr (s.branch whole e b other))) = IsExpr e × (IsBlock b × (bare_expr other ≡ s.inner (only_value nowhere leaves)))
+  IsWhile (s.block span s.no_stmts (s.some_maybeexpr (s.let_branch whole pat e b other))) = IsPattern pat × (IsExpr e × (IsInner b × (bare_expr other ≡ leaves)))
+  IsWhile other = ⊥
+
+  pub IsBlock : s.Block → Type 0
+  IsBlock (s.block span before value) = AreStmts before × IsMaybe value
+
+  pub IsStmt : s.Stmt → Type 0
+  IsStmt (s.run e true) = IsExpr e
+  IsStmt (s.run e false) = (is_block_like e ≡ true) × IsExpr e
+  IsStmt (s.bind span pat ty value) = IsPattern pat × (IsLetType ty × IsMaybe value)
+
+  pub AreExprs : s.Exprs → Type 0
+  AreExprs s.no_exprs = Unit {0}
+  AreExprs (s.more_exprs e rest) = IsExpr e × AreExprs rest
+
+  pub AreArms : s.Arms → Type 0
+  AreArms s.no_arms = Unit {0}
+  AreArms (s.more_arms pat e rest) = IsPattern pat × (IsExpr e × AreArms rest)
+
+  pub AreInits : s.Inits → Type 0
+  AreInits s.no_inits = Unit {0}
+  AreInits (s.more_inits span name e rest) = IsName name × (IsExpr e × AreInits rest)
+
+  pub AreStmts : s.Stmts → Type 0
+  AreStmts s.no_stmts = Unit {0}
+  AreStmts (s.more_stmts one rest) = IsStmt one × AreStmts rest
