@@ -1,2 +1,14 @@
 mod Parts
 mod Lists
+mod SpelledWords
+mod SpelledTypes
+mod SpelledPatterns
+mod SpelledExpressions
+mod SpelledItems
+mod ReadCommon
+mod ReadTypes
+mod Starts
+mod ReadPaths
+mod ReadPatterns
+mod ReadLevels
+mod ReadExpressions

@@ -158,8 +158,8 @@ swap_is {v} target whole path mem {class} after_std e is = is whole (built_in cl
 -- a path of two names or of a built-in function, with what stands after it
 pub path_called : (path : t.Path) → IsPath path → (target : t.Path → s.Expr) (at : ℕ) (ts more : List Tok) (ls : List Lexeme) → Laid at (path_tokens path ts) ls →
     ((from : ℕ) (us : List Lexeme) → Laid from ts us → Called target more us) →
-    ((name : Ident) → path ≡ t.one name → (o : Off (named name.name) ts ls) → Named (λ x. target (t.one x)) name.name more ls) → Core (target (bare_path path)) more ls
-path_called (t.one name) ok target at ts more ls laid rest one = one name refl (off laid)
+    ((name : Ident) → IsName name.name → (o : Off (named name.name) ts ls) → Named (λ x. target (t.one x)) name.name more ls) → Core (target (bare_path path)) more ls
+path_called (t.one name) ok target at ts more ls laid rest one = one name ok (off laid)
 path_called (t.two first t.no_turbo next) ok target at ts more ls laid rest one =
     let o = off laid in
     let a = off o.left in
@@ -208,3 +208,14 @@ path_called (t.mem_swap span mem true) ok target at ts more ls laid rest one =
     let e = off d.left in
     let x = (rest e.at e.rest e.left).after_path in
     read_by _ (inr (inr (inr (inr (inr (inl refl)))))) _ x.rest (tok a T.Std refl refl (R.part (R.by _ (inr (inr (inl refl))) _ (tok b T.Colons refl refl (R.part (R.by _ (inr (inl refl)) _ (tok c T.Mem refl refl (R.part (R.by _ (inr (inr (inl refl))) _ (tok d T.Colons refl refl (R.part (R.by _ (inr (inl refl)) _ (tok e T.SwapName refl refl (R.part x.reads R.nothing))) R.nothing))) R.nothing))) R.nothing))) R.nothing)) (swap_is target _ _ _ _ e.class x.is) x.left
+
+-- a name with perhaps types, and what it is applied to
+pub one_called : (name : List ℕ) → IsName name → (tys : t.Turbo) → IsTurbo tys → (target : Ident → t.Turbo → s.Expr) (ts more : List Tok) (ls : List Lexeme) → (o : Off (named name) (turbo_tokens tys ts) ls) →
+    ((from : ℕ) (us : List Lexeme) → Laid from ts us → Applied target more us) → Named (λ x. target x (bare_turbo tys)) name more ls
+one_called name ok t.no_turbo okt target ts more ls o f = applied name (start (class_named name C.Other) ok) target ts more ls o (f o.at o.rest o.left)
+one_called name ok (t.turbo tys) okt target ts more ls o f =
+    let a = off o.left in
+    let b = off a.left in
+    let y = in_angles_read tys okt b.at _ b.rest b.left in
+    let x = f y.at y.rest y.left in
+    with_types name (start (class_named name C.Other) ok) target tys _ _ _ _ more ls o a b y (read_by _ (inl refl) _ x.rest (R.part x.reads R.nothing) x.is x.left)
