@@ -12,3 +12,4 @@ mod ReadPaths
 mod ReadPatterns
 mod ReadLevels
 mod ReadExpressions
+mod ReadItems

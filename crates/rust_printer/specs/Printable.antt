@@ -2,6 +2,13 @@
 use Rattle.std.specs.Prelude.{◌≡◌, ◌⊎◌, ℕ, Bool, true, false, List, [], ◌∷◌, Option, Some, None, bytes_eq, codes, drop}
 use Rattle.aen_base.specs.declared.span.Span.{Span}
 use Rattle.rust_ast.specs.declared.ident.Ident.{Ident}
+use Rattle.rust_ast.specs.declared.program.Program.{Program}
+use Rattle.rust_ast.specs.declared.program.Item.{Item}
+use Rattle.rust_ast.specs.declared.program.Item.TheVariants as items
+use Rattle.rust_ast.specs.declared.program.Param.{Param}
+use Rattle.rust_ast.specs.declared.program.Fields.{Fields}
+use Rattle.rust_ast.specs.declared.program.Fields.TheVariants as has_fields
+use Rattle.rust_ast.specs.declared.program.Variant.{Variant}
 use Rattle.rust_ast.specs.SourceTypes as t
 use Rattle.rust_ast.specs.SourcePatterns as p
 use Rattle.rust_ast.specs.Source as s
@@ -224,3 +231,42 @@ abbrev mutual
   pub AreStmts : s.Stmts → Type 0
   AreStmts s.no_stmts = Unit {0}
   AreStmts (s.more_stmts one rest) = IsStmt one × AreStmts rest
+
+abbrev pub AreNames : List Ident → Type 0
+AreNames [] = Unit {0}
+AreNames (name ∷ names) = IsName name.name × AreNames names
+
+abbrev pub AreParams : List Param → Type 0
+AreParams [] = Unit {0}
+AreParams (param ∷ params) = IsName param.name.name × (IsType param.ty × AreParams params)
+
+abbrev pub IsResult : Option t.Written → Type 0
+IsResult None = Unit {0}
+IsResult (Some ty) = IsType ty
+
+abbrev pub AreFields : List (Span × List ℕ × t.Written) → Type 0
+AreFields [] = Unit {0}
+AreFields (field ∷ fields) = IsName field.1 × (IsType field.2 × AreFields fields)
+
+-- with names there is one field at least
+abbrev pub HasFields : Fields → Type 0
+HasFields (has_fields.Named []) = ⊥
+HasFields (has_fields.Named (field ∷ fields)) = AreFields (field ∷ fields)
+HasFields (has_fields.Placed tys) = AreTypes (t.writtens tys)
+
+abbrev pub AreVariants : List Variant → Type 0
+AreVariants [] = Unit {0}
+AreVariants (variant ∷ variants) = IsName variant.name.name × (AreTypes (t.writtens variant.fields) × AreVariants variants)
+
+abbrev pub IsItem : Item → Type 0
+IsItem (items.Function f) = IsName f.name.name × (AreNames f.type_params × (AreParams f.params × (IsResult f.result × IsBlock f.body)))
+IsItem (items.Struct x) = IsName x.name.name × (AreNames x.params × HasFields x.fields)
+IsItem (items.Enum x) = IsName x.name.name × (AreNames x.params × AreVariants x.variants)
+IsItem items.UseMem = Unit {0}
+
+abbrev pub AreItems : List Item → Type 0
+AreItems [] = Unit {0}
+AreItems (item ∷ items) = IsItem item × AreItems items
+
+abbrev pub IsProgram : Program → Type 0
+IsProgram x = AreItems x.items
