@@ -1,5 +1,5 @@
 -- A part of the grammar is read of the lexemes of its tokens, before others.
-use Rattle.std.proofs.Common.{◌≡◌, refl, sym, ap, subst, ◌∙◌, inl, inr, ℕ, ◌≤◌, ◌<◌, Bool, true, false, List, [], ◌∷◌, if◌then◌else◌}
+use Rattle.std.proofs.Common.{◌≡◌, refl, sym, ap, subst, ◌∙◌, inl, inr, ℕ, ◌≤◌, ◌<◌, Bool, true, false, List, [], ◌∷◌, if◌then◌else◌, arith}
 use denote.Enum.Bare.{sameb}
 use Rattle.aen_base.specs.declared.span.Span.{Span}
 use Rattle.table_reader.specs.declared.symbol.Symbol.{Symbol}
@@ -69,6 +69,19 @@ pub record Off (t : Tok) (ts : List Tok) (ls : List Lexeme) : Type 0 where
 
 pub off : {t : Tok} {ts : List Tok} {ls : List Lexeme} {at : ℕ} → Laid at (t ∷ ts) ls → Off t ts ls
 off (L.next {l} {ls} a b c d r) = record { lexeme = l; rest = ls; same = refl; class = c; content = d; at = l.span.hi; left = r }
+
+-- of two tokens, of which the second begins later
+pub record Offs (t u : Tok) (ts : List Tok) (ls : List Lexeme) : Type 0 where
+  pub first : Off t (u ∷ ts) ls
+  pub second : Off u ts first.rest
+  pub less : first.lexeme.span.lo < second.lexeme.span.lo
+
+pub offs : {t u : Tok} {ts : List Tok} {ls : List Lexeme} {at : ℕ} → Laid at (t ∷ u ∷ ts) ls → Offs t u ts ls
+offs (L.next {l} a b c d (L.next {l = k} {ls} a2 b2 c2 d2 r)) = record {
+  first = record { lexeme = l; rest = k ∷ ls; same = refl; class = c; content = d; at = l.span.hi; left = L.next a2 b2 c2 d2 r };
+  second = record { lexeme = k; rest = ls; same = refl; class = c2; content = d2; at = k.span.hi; left = r };
+  less = omega (arith, b, a2);
+}
 
 -- a token of the grammar stands for it
 pub tok : {t : Tok} {ts : List Tok} {ls us : List Lexeme} {p : List (Symbol Terminal Part)} {vs : Values p} (o : Off t ts ls) (x : Terminal) →

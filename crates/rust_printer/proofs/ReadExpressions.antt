@@ -1,5 +1,6 @@
 -- Expressions, statements and blocks are read of their tokens.
-use Rattle.std.proofs.Common.{◌≡◌, ◌⊎◌, refl, sym, ap, ◌∙◌, inl, inr, ℕ, Bool, true, false, not, List, [], ◌∷◌, Option, Some, None, codes, if◌then◌else◌}
+use Rattle.std.proofs.Common.{◌≡◌, ◌⊎◌, refl, sym, ap, ◌∙◌, inl, inr, ℕ, Bool, true, false, not, List, [], ◌∷◌, Option, Some, None, codes, if◌then◌else◌, ◌&&◌, ◌==◌, ◌<◌, arith}
+use Rattle.std.proofs.lemmas.Bool.{eq-eqb, ne_eqb}
 use Rattle.table_reader.specs.Reading as R
 use Rattle.aen_base.specs.declared.span.Span.{Span}
 use Rattle.aen_base.specs.declared.operators.BinOp.TheVariants as bin
@@ -33,7 +34,7 @@ use Rattle.rust_printer.specs.Forms.{is_operand, is_core, is_leading}
 use Rattle.rust_printer.specs.Bare.{bare_ident, bare_turbo, bare_path, bare_maybewritten, bare_expr, bare_maybeexpr, bare_block, bare_stmts, bare_exprs, bare_arms, bare_inits, nowhere}
 use Rattle.rust_printer.specs.Laid.{Laid}
 use Rattle.rust_printer.specs.Printable.{IsName, IsPath, IsTurbo, IsPlace, IsLetType, is_block_like, is_else, IsExpr, IsMaybe, IsBlock, AreStmts, AreExprs, AreArms, AreInits}
-use Rattle.rust_printer.proofs.ReadCommon.{Read, read_by, Off, off, tok}
+use Rattle.rust_printer.proofs.ReadCommon.{Read, read_by, Off, off, offs, tok}
 use Rattle.rust_printer.proofs.ReadTypes.{at_nowhere, type_read, mut_read}
 use Rattle.rust_printer.proofs.ReadPatterns.{pattern_read}
 use Rattle.rust_printer.proofs.ReadPaths.{not_called, is_called, alone, one_called, path_called}
@@ -164,8 +165,16 @@ leading_by false e h r at more ls laid = let o = off laid in leads (leading_of_u
 
 -- ---- numbers, fields
 
+both_true : (a b : Bool) → a ≡ true → b ≡ true → (a && b) ≡ true
+both_true true b p q = q
+both_true false b p q = p
+
+false_first : (a b : Bool) → a ≡ false → (a && b) ≡ false
+false_first true b p = cc
+false_first false b p = refl
+
 same_self : (span : Span) → same_span span span ≡ true
-same_self span = ?
+same_self span = both_true (span.lo == span.lo) (span.hi == span.hi) (eq-eqb span.lo span.lo refl) (eq-eqb span.hi span.hi refl)
 
 number_is : (negative : Bool) (size : ℕ) (suffix : suffixes.Suffix) (content : Content) → content ≡ says.Number size (suffixes.suffix_option suffix) →
     s.number nowhere negative (number_in content).0 (suffixes.suffix (number_in content).1) ≡ s.number nowhere negative size suffix
@@ -177,6 +186,14 @@ negative_is : (whole span : Span) (size : ℕ) (suffix : suffixes.Suffix) (conte
 negative_is whole span size suffix content e =
     ap (λ b. bare_expr (if b then s.number whole true (number_in content).0 (suffixes.suffix (number_in content).1) else s.minus whole (number_of span (number_in content)))) (same_self span)
     ∙ number_is true size suffix content e
+
+-- an integer that stands elsewhere than the operand begins
+positive_is : (whole operand span : Span) (size : ℕ) (suffix : suffixes.Suffix) (content : Content) → content ≡ says.Number size (suffixes.suffix_option suffix) → (span.lo == operand.lo) ≡ false →
+    bare_expr (negated whole operand (number_of span (number_in content))) ≡ s.minus nowhere (s.number nowhere false size suffix)
+positive_is whole operand span size suffix content e h =
+    ap (λ b. bare_expr (if b then s.number whole true (number_in content).0 (suffixes.suffix (number_in content).1) else s.minus whole (number_of span (number_in content))))
+      (false_first (span.lo == operand.lo) (span.hi == operand.hi) h)
+    ∙ ap (s.minus nowhere) (number_is false size suffix content e)
 
 digits_or_name : (name : List ℕ) → IsPlace name → {ts : List Tok} {ls : List Lexeme} (b : Off (placed name) ts ls) → Read N.FieldName (λ v. v.name ≡ name) ts ls
 digits_or_name name (inl h) b = read_by _ (inr (inl refl)) _ b.rest (tok b T.Digits (ap (λ x. has_class T.Digits (if x then C.Digits else class_named name C.Other)) h) refl R.nothing) (ap name_in b.content) b.left
@@ -193,7 +210,44 @@ field_read e name x a b ok =
 
 -- the negation of an integer in brackets, which begins after the bracket; and of another expression
 minus_by : (b : Bool) (e : s.Expr) → is_positive e ≡ b → Reader e → (at : ℕ) (more : List Tok) (ls : List Lexeme) → Laid at (mark C.Minus ∷ mark C.OpenBracket ∷ expr_tokens e (mark C.CloseBracket ∷ more)) ls → Operand (s.minus nowhere (bare_expr e)) more ls
-minus_by true e h r at more ls laid = ?
+minus_by true (s.number w false size suffix) h r at more ls laid =
+    let a = off laid in
+    let q = offs a.left in
+    let o = q.first in
+    let n = q.second in
+    let c = off n.left in
+    let x = R.by _ (inr (inr (inr (inl refl)))) _ (R.part (R.by _ (inl refl) _ (R.part (R.by _ (inl refl) _ (R.part (R.by _ (inl refl) _ (R.part (R.by _ (inl refl) _ (R.part (R.by _ (inl refl) _ (R.part (R.by _ (inl refl) _ (R.part (R.by _ (inl refl) _ (R.part (R.by _ (inl refl) _ (R.part (R.by _ (inl refl) _ (R.part (R.by _ (inl refl) _ (R.part (R.by _ (inr (inr (inr (inr (inl refl))))) _ (R.part (R.by _ (inl refl) _ (tok n T.Integer refl refl R.nothing)) (R.part (R.by _ (inl refl) _ R.nothing) R.nothing))) (R.part (R.by _ (inl refl) _ R.nothing) R.nothing))) (R.part (R.by _ (inl refl) _ R.nothing) R.nothing))) (R.part (R.by _ (inl refl) _ R.nothing) R.nothing))) (R.part (R.by _ (inl refl) _ R.nothing) R.nothing))) (R.part (R.by _ (inl refl) _ R.nothing) R.nothing))) (R.part (R.by _ (inl refl) _ R.nothing) R.nothing))) (R.part (R.by _ (inl refl) _ R.nothing) R.nothing))) (R.part (R.by _ (inl refl) _ R.nothing) R.nothing))) (R.part (R.by _ (inl refl) _ R.nothing) R.nothing))) (R.part (R.by _ (inl refl) _ R.nothing) R.nothing))) (R.part (R.by _ (inl refl) _ R.nothing) R.nothing)) in
+    record {
+      unary = read_by _ (inl refl) _ c.rest (tok a T.Minus refl refl (R.part (R.by _ (inr (inr (inr (inr (inl refl))))) _ (R.part (R.by _ (inr (inr (inl refl))) _ (tok o T.OpenBracket refl refl (R.part (R.by _ (inr (inl refl)) _ (R.part x (R.part (R.by _ (inl refl) _ (tok c T.CloseBracket refl refl R.nothing)) R.nothing))) R.nothing))) (R.part (R.by _ (inl refl) _ R.nothing) R.nothing))) R.nothing)) (positive_is _ _ n.lexeme.span size suffix n.lexeme.content n.content (ne_eqb n.lexeme.span.lo o.lexeme.span.lo (λ e. omega (arith, e, q.less)))) c.left;
+      leading = read_by _ (inl refl) _ c.rest (tok a T.Minus refl refl (R.part (R.by _ (inr (inr (inr (inr (inl refl))))) _ (R.part (R.by _ (inr (inr (inl refl))) _ (tok o T.OpenBracket refl refl (R.part (R.by _ (inr (inl refl)) _ (R.part x (R.part (R.by _ (inl refl) _ (tok c T.CloseBracket refl refl R.nothing)) R.nothing))) R.nothing))) (R.part (R.by _ (inl refl) _ R.nothing) R.nothing))) R.nothing)) (positive_is _ _ n.lexeme.span size suffix n.lexeme.content n.content (ne_eqb n.lexeme.span.lo o.lexeme.span.lo (λ e. omega (arith, e, q.less)))) c.left;
+    }
+minus_by true (s.number w true size suffix) h r at more ls laid = no_true false refl h
+minus_by true (s.truth a0 a1) h r at more ls laid = no_true false refl h
+minus_by true (s.tuple a0 a1) h r at more ls laid = no_true false refl h
+minus_by true (s.inner a0) h r at more ls laid = no_true false refl h
+minus_by true (s.branch a0 a1 a2 a3) h r at more ls laid = no_true false refl h
+minus_by true (s.select a0 a1 a2) h r at more ls laid = no_true false refl h
+minus_by true (s.let_branch a0 a1 a2 a3 a4) h r at more ls laid = no_true false refl h
+minus_by true (s.forever a0 a1 a2) h r at more ls laid = no_true false refl h
+minus_by true (s.panic a0) h r at more ls laid = no_true false refl h
+minus_by true (s.path a0 a1) h r at more ls laid = no_true false refl h
+minus_by true (s.call a0 a1 a2 a3) h r at more ls laid = no_true false refl h
+minus_by true (s.literal a0 a1 a2 a3) h r at more ls laid = no_true false refl h
+minus_by true (s.field a0 a1 a2 a3) h r at more ls laid = no_true false refl h
+minus_by true (s.minus a0 a1) h r at more ls laid = no_true false refl h
+minus_by true (s.negation a0 a1) h r at more ls laid = no_true false refl h
+minus_by true (s.deref a0 a1) h r at more ls laid = no_true false refl h
+minus_by true (s.borrow a0 a1 a2) h r at more ls laid = no_true false refl h
+minus_by true (s.binary a0 a1 a2 a3) h r at more ls laid = no_true false refl h
+minus_by true (s.compare a0 a1 a2 a3) h r at more ls laid = no_true false refl h
+minus_by true (s.both a0 a1 a2) h r at more ls laid = no_true false refl h
+minus_by true (s.either a0 a1 a2) h r at more ls laid = no_true false refl h
+minus_by true (s.cast a0 a1 a2) h r at more ls laid = no_true false refl h
+minus_by true (s.assign a0 a1 a2) h r at more ls laid = no_true false refl h
+minus_by true (s.update a0 a1 a2 a3) h r at more ls laid = no_true false refl h
+minus_by true (s.give a0 a1) h r at more ls laid = no_true false refl h
+minus_by true (s.leave a0 a1) h r at more ls laid = no_true false refl h
+minus_by true (s.go_on a0) h r at more ls laid = no_true false refl h
 minus_by false e h r at more ls laid =
     let a = off laid in
     let o = off a.left in
@@ -288,7 +342,32 @@ mutual
           (tok a T.If refl refl (R.part (R.by _ (inr (inl refl)) _ (tok w T.Let refl refl (R.part p.reads (tok q T.Equals refl refl (R.part x.reads (R.part y.reads (R.part (R.by _ (inr (inl refl)) _ (tok c T.Else refl refl (R.part z.reads R.nothing))) R.nothing))))))) R.nothing))
           (λ i. s.let_branch nowhere (p.is i) (x.is i) (s.inner (y.is i)) (z.is i)) z.left in
       block_node (s.let_branch span pat e (s.inner b) other) refl refl (read_by _ (inr (inl refl)) _ f.rest (R.part f.reads R.nothing) (f.is) f.left) (λ h. read_by _ (inl refl) _ f.rest (R.part f.reads R.nothing) (f.is) f.left)
-  expr_read (s.let_branch span pat e b other) ok at more ls laid = absurd ok.1.1.0
+  expr_read (s.let_branch span pat e (s.number a0 a1 a2 a3) other) ok at more ls laid = absurd ok.1.1.0
+  expr_read (s.let_branch span pat e (s.truth a0 a1) other) ok at more ls laid = absurd ok.1.1.0
+  expr_read (s.let_branch span pat e (s.tuple a0 a1) other) ok at more ls laid = absurd ok.1.1.0
+  expr_read (s.let_branch span pat e (s.branch a0 a1 a2 a3) other) ok at more ls laid = absurd ok.1.1.0
+  expr_read (s.let_branch span pat e (s.select a0 a1 a2) other) ok at more ls laid = absurd ok.1.1.0
+  expr_read (s.let_branch span pat e (s.let_branch a0 a1 a2 a3 a4) other) ok at more ls laid = absurd ok.1.1.0
+  expr_read (s.let_branch span pat e (s.forever a0 a1 a2) other) ok at more ls laid = absurd ok.1.1.0
+  expr_read (s.let_branch span pat e (s.panic a0) other) ok at more ls laid = absurd ok.1.1.0
+  expr_read (s.let_branch span pat e (s.path a0 a1) other) ok at more ls laid = absurd ok.1.1.0
+  expr_read (s.let_branch span pat e (s.call a0 a1 a2 a3) other) ok at more ls laid = absurd ok.1.1.0
+  expr_read (s.let_branch span pat e (s.literal a0 a1 a2 a3) other) ok at more ls laid = absurd ok.1.1.0
+  expr_read (s.let_branch span pat e (s.field a0 a1 a2 a3) other) ok at more ls laid = absurd ok.1.1.0
+  expr_read (s.let_branch span pat e (s.minus a0 a1) other) ok at more ls laid = absurd ok.1.1.0
+  expr_read (s.let_branch span pat e (s.negation a0 a1) other) ok at more ls laid = absurd ok.1.1.0
+  expr_read (s.let_branch span pat e (s.deref a0 a1) other) ok at more ls laid = absurd ok.1.1.0
+  expr_read (s.let_branch span pat e (s.borrow a0 a1 a2) other) ok at more ls laid = absurd ok.1.1.0
+  expr_read (s.let_branch span pat e (s.binary a0 a1 a2 a3) other) ok at more ls laid = absurd ok.1.1.0
+  expr_read (s.let_branch span pat e (s.compare a0 a1 a2 a3) other) ok at more ls laid = absurd ok.1.1.0
+  expr_read (s.let_branch span pat e (s.both a0 a1 a2) other) ok at more ls laid = absurd ok.1.1.0
+  expr_read (s.let_branch span pat e (s.either a0 a1 a2) other) ok at more ls laid = absurd ok.1.1.0
+  expr_read (s.let_branch span pat e (s.cast a0 a1 a2) other) ok at more ls laid = absurd ok.1.1.0
+  expr_read (s.let_branch span pat e (s.assign a0 a1 a2) other) ok at more ls laid = absurd ok.1.1.0
+  expr_read (s.let_branch span pat e (s.update a0 a1 a2 a3) other) ok at more ls laid = absurd ok.1.1.0
+  expr_read (s.let_branch span pat e (s.give a0 a1) other) ok at more ls laid = absurd ok.1.1.0
+  expr_read (s.let_branch span pat e (s.leave a0 a1) other) ok at more ls laid = absurd ok.1.1.0
+  expr_read (s.let_branch span pat e (s.go_on a0) other) ok at more ls laid = absurd ok.1.1.0
   expr_read (s.select span e arms) ok at more ls laid =
       let a = off laid in
       let x = condition_read e (expr_read e ok.0) a.at _ a.rest a.left in
@@ -311,7 +390,59 @@ mutual
       let y = block_read b ok.1.1.0 x.at more x.rest x.left in
       block_node (s.forever span true (s.block w s.no_stmts (s.some_maybeexpr (s.let_branch whole pat e (s.inner b) other)))) refl refl
       (read_by _ (inr (inr (inr (inr (inl refl))))) _ y.rest (tok a T.While refl refl (R.part (R.by _ (inr (inl refl)) _ (tok d T.Let refl refl (R.part p.reads (tok q T.Equals refl refl (R.part x.reads (R.part y.reads R.nothing)))))) R.nothing)) (λ i. s.forever nowhere true (s.block nowhere s.no_stmts (s.some_maybeexpr (s.let_branch nowhere (p.is i) (x.is i) (s.inner (y.is i)) (sym ok.1.1.1 i))))) y.left) (λ h. no_true false refl h)
-  expr_read (s.forever span true other) ok at more ls laid = ?
+  expr_read (s.forever span true (s.block w (s.more_stmts one rest) value)) ok at more ls laid = absurd ok
+  expr_read (s.forever span true (s.block w s.no_stmts s.no_maybeexpr)) ok at more ls laid = absurd ok
+  expr_read (s.forever span true (s.block w s.no_stmts (s.some_maybeexpr (s.number a0 a1 a2 a3)))) ok at more ls laid = absurd ok
+  expr_read (s.forever span true (s.block w s.no_stmts (s.some_maybeexpr (s.truth a0 a1)))) ok at more ls laid = absurd ok
+  expr_read (s.forever span true (s.block w s.no_stmts (s.some_maybeexpr (s.tuple a0 a1)))) ok at more ls laid = absurd ok
+  expr_read (s.forever span true (s.block w s.no_stmts (s.some_maybeexpr (s.inner a0)))) ok at more ls laid = absurd ok
+  expr_read (s.forever span true (s.block w s.no_stmts (s.some_maybeexpr (s.select a0 a1 a2)))) ok at more ls laid = absurd ok
+  expr_read (s.forever span true (s.block w s.no_stmts (s.some_maybeexpr (s.forever a0 a1 a2)))) ok at more ls laid = absurd ok
+  expr_read (s.forever span true (s.block w s.no_stmts (s.some_maybeexpr (s.panic a0)))) ok at more ls laid = absurd ok
+  expr_read (s.forever span true (s.block w s.no_stmts (s.some_maybeexpr (s.path a0 a1)))) ok at more ls laid = absurd ok
+  expr_read (s.forever span true (s.block w s.no_stmts (s.some_maybeexpr (s.call a0 a1 a2 a3)))) ok at more ls laid = absurd ok
+  expr_read (s.forever span true (s.block w s.no_stmts (s.some_maybeexpr (s.literal a0 a1 a2 a3)))) ok at more ls laid = absurd ok
+  expr_read (s.forever span true (s.block w s.no_stmts (s.some_maybeexpr (s.field a0 a1 a2 a3)))) ok at more ls laid = absurd ok
+  expr_read (s.forever span true (s.block w s.no_stmts (s.some_maybeexpr (s.minus a0 a1)))) ok at more ls laid = absurd ok
+  expr_read (s.forever span true (s.block w s.no_stmts (s.some_maybeexpr (s.negation a0 a1)))) ok at more ls laid = absurd ok
+  expr_read (s.forever span true (s.block w s.no_stmts (s.some_maybeexpr (s.deref a0 a1)))) ok at more ls laid = absurd ok
+  expr_read (s.forever span true (s.block w s.no_stmts (s.some_maybeexpr (s.borrow a0 a1 a2)))) ok at more ls laid = absurd ok
+  expr_read (s.forever span true (s.block w s.no_stmts (s.some_maybeexpr (s.binary a0 a1 a2 a3)))) ok at more ls laid = absurd ok
+  expr_read (s.forever span true (s.block w s.no_stmts (s.some_maybeexpr (s.compare a0 a1 a2 a3)))) ok at more ls laid = absurd ok
+  expr_read (s.forever span true (s.block w s.no_stmts (s.some_maybeexpr (s.both a0 a1 a2)))) ok at more ls laid = absurd ok
+  expr_read (s.forever span true (s.block w s.no_stmts (s.some_maybeexpr (s.either a0 a1 a2)))) ok at more ls laid = absurd ok
+  expr_read (s.forever span true (s.block w s.no_stmts (s.some_maybeexpr (s.cast a0 a1 a2)))) ok at more ls laid = absurd ok
+  expr_read (s.forever span true (s.block w s.no_stmts (s.some_maybeexpr (s.assign a0 a1 a2)))) ok at more ls laid = absurd ok
+  expr_read (s.forever span true (s.block w s.no_stmts (s.some_maybeexpr (s.update a0 a1 a2 a3)))) ok at more ls laid = absurd ok
+  expr_read (s.forever span true (s.block w s.no_stmts (s.some_maybeexpr (s.give a0 a1)))) ok at more ls laid = absurd ok
+  expr_read (s.forever span true (s.block w s.no_stmts (s.some_maybeexpr (s.leave a0 a1)))) ok at more ls laid = absurd ok
+  expr_read (s.forever span true (s.block w s.no_stmts (s.some_maybeexpr (s.go_on a0)))) ok at more ls laid = absurd ok
+  expr_read (s.forever span true (s.block w s.no_stmts (s.some_maybeexpr (s.let_branch whole pat e (s.number a0 a1 a2 a3) other)))) ok at more ls laid = absurd ok.1.1.0
+  expr_read (s.forever span true (s.block w s.no_stmts (s.some_maybeexpr (s.let_branch whole pat e (s.truth a0 a1) other)))) ok at more ls laid = absurd ok.1.1.0
+  expr_read (s.forever span true (s.block w s.no_stmts (s.some_maybeexpr (s.let_branch whole pat e (s.tuple a0 a1) other)))) ok at more ls laid = absurd ok.1.1.0
+  expr_read (s.forever span true (s.block w s.no_stmts (s.some_maybeexpr (s.let_branch whole pat e (s.branch a0 a1 a2 a3) other)))) ok at more ls laid = absurd ok.1.1.0
+  expr_read (s.forever span true (s.block w s.no_stmts (s.some_maybeexpr (s.let_branch whole pat e (s.select a0 a1 a2) other)))) ok at more ls laid = absurd ok.1.1.0
+  expr_read (s.forever span true (s.block w s.no_stmts (s.some_maybeexpr (s.let_branch whole pat e (s.let_branch a0 a1 a2 a3 a4) other)))) ok at more ls laid = absurd ok.1.1.0
+  expr_read (s.forever span true (s.block w s.no_stmts (s.some_maybeexpr (s.let_branch whole pat e (s.forever a0 a1 a2) other)))) ok at more ls laid = absurd ok.1.1.0
+  expr_read (s.forever span true (s.block w s.no_stmts (s.some_maybeexpr (s.let_branch whole pat e (s.panic a0) other)))) ok at more ls laid = absurd ok.1.1.0
+  expr_read (s.forever span true (s.block w s.no_stmts (s.some_maybeexpr (s.let_branch whole pat e (s.path a0 a1) other)))) ok at more ls laid = absurd ok.1.1.0
+  expr_read (s.forever span true (s.block w s.no_stmts (s.some_maybeexpr (s.let_branch whole pat e (s.call a0 a1 a2 a3) other)))) ok at more ls laid = absurd ok.1.1.0
+  expr_read (s.forever span true (s.block w s.no_stmts (s.some_maybeexpr (s.let_branch whole pat e (s.literal a0 a1 a2 a3) other)))) ok at more ls laid = absurd ok.1.1.0
+  expr_read (s.forever span true (s.block w s.no_stmts (s.some_maybeexpr (s.let_branch whole pat e (s.field a0 a1 a2 a3) other)))) ok at more ls laid = absurd ok.1.1.0
+  expr_read (s.forever span true (s.block w s.no_stmts (s.some_maybeexpr (s.let_branch whole pat e (s.minus a0 a1) other)))) ok at more ls laid = absurd ok.1.1.0
+  expr_read (s.forever span true (s.block w s.no_stmts (s.some_maybeexpr (s.let_branch whole pat e (s.negation a0 a1) other)))) ok at more ls laid = absurd ok.1.1.0
+  expr_read (s.forever span true (s.block w s.no_stmts (s.some_maybeexpr (s.let_branch whole pat e (s.deref a0 a1) other)))) ok at more ls laid = absurd ok.1.1.0
+  expr_read (s.forever span true (s.block w s.no_stmts (s.some_maybeexpr (s.let_branch whole pat e (s.borrow a0 a1 a2) other)))) ok at more ls laid = absurd ok.1.1.0
+  expr_read (s.forever span true (s.block w s.no_stmts (s.some_maybeexpr (s.let_branch whole pat e (s.binary a0 a1 a2 a3) other)))) ok at more ls laid = absurd ok.1.1.0
+  expr_read (s.forever span true (s.block w s.no_stmts (s.some_maybeexpr (s.let_branch whole pat e (s.compare a0 a1 a2 a3) other)))) ok at more ls laid = absurd ok.1.1.0
+  expr_read (s.forever span true (s.block w s.no_stmts (s.some_maybeexpr (s.let_branch whole pat e (s.both a0 a1 a2) other)))) ok at more ls laid = absurd ok.1.1.0
+  expr_read (s.forever span true (s.block w s.no_stmts (s.some_maybeexpr (s.let_branch whole pat e (s.either a0 a1 a2) other)))) ok at more ls laid = absurd ok.1.1.0
+  expr_read (s.forever span true (s.block w s.no_stmts (s.some_maybeexpr (s.let_branch whole pat e (s.cast a0 a1 a2) other)))) ok at more ls laid = absurd ok.1.1.0
+  expr_read (s.forever span true (s.block w s.no_stmts (s.some_maybeexpr (s.let_branch whole pat e (s.assign a0 a1 a2) other)))) ok at more ls laid = absurd ok.1.1.0
+  expr_read (s.forever span true (s.block w s.no_stmts (s.some_maybeexpr (s.let_branch whole pat e (s.update a0 a1 a2 a3) other)))) ok at more ls laid = absurd ok.1.1.0
+  expr_read (s.forever span true (s.block w s.no_stmts (s.some_maybeexpr (s.let_branch whole pat e (s.give a0 a1) other)))) ok at more ls laid = absurd ok.1.1.0
+  expr_read (s.forever span true (s.block w s.no_stmts (s.some_maybeexpr (s.let_branch whole pat e (s.leave a0 a1) other)))) ok at more ls laid = absurd ok.1.1.0
+  expr_read (s.forever span true (s.block w s.no_stmts (s.some_maybeexpr (s.let_branch whole pat e (s.go_on a0) other)))) ok at more ls laid = absurd ok.1.1.0
   expr_read (s.forever span false (s.block w before value)) ok at more ls laid =
       let a = off laid in
       let y = block_read (s.block w before value) ok a.at more a.rest a.left in
