@@ -216,10 +216,9 @@ minus_by true (s.number w false size suffix) h r at more ls laid =
     let o = q.first in
     let n = q.second in
     let c = off n.left in
-    let x = R.by _ (inr (inr (inr (inl refl)))) _ (R.part (R.by _ (inl refl) _ (R.part (R.by _ (inl refl) _ (R.part (R.by _ (inl refl) _ (R.part (R.by _ (inl refl) _ (R.part (R.by _ (inl refl) _ (R.part (R.by _ (inl refl) _ (R.part (R.by _ (inl refl) _ (R.part (R.by _ (inl refl) _ (R.part (R.by _ (inl refl) _ (R.part (R.by _ (inl refl) _ (R.part (R.by _ (inr (inr (inr (inr (inl refl))))) _ (R.part (R.by _ (inl refl) _ (tok n T.Integer refl refl R.nothing)) (R.part (R.by _ (inl refl) _ R.nothing) R.nothing))) (R.part (R.by _ (inl refl) _ R.nothing) R.nothing))) (R.part (R.by _ (inl refl) _ R.nothing) R.nothing))) (R.part (R.by _ (inl refl) _ R.nothing) R.nothing))) (R.part (R.by _ (inl refl) _ R.nothing) R.nothing))) (R.part (R.by _ (inl refl) _ R.nothing) R.nothing))) (R.part (R.by _ (inl refl) _ R.nothing) R.nothing))) (R.part (R.by _ (inl refl) _ R.nothing) R.nothing))) (R.part (R.by _ (inl refl) _ R.nothing) R.nothing))) (R.part (R.by _ (inl refl) _ R.nothing) R.nothing))) (R.part (R.by _ (inl refl) _ R.nothing) R.nothing))) (R.part (R.by _ (inl refl) _ R.nothing) R.nothing)) in
     record {
-      unary = read_by _ (inl refl) _ c.rest (tok a T.Minus refl refl (R.part (R.by _ (inr (inr (inr (inr (inl refl))))) _ (R.part (R.by _ (inr (inr (inl refl))) _ (tok o T.OpenBracket refl refl (R.part (R.by _ (inr (inl refl)) _ (R.part x (R.part (R.by _ (inl refl) _ (tok c T.CloseBracket refl refl R.nothing)) R.nothing))) R.nothing))) (R.part (R.by _ (inl refl) _ R.nothing) R.nothing))) R.nothing)) (positive_is _ _ n.lexeme.span size suffix n.lexeme.content n.content (ne_eqb n.lexeme.span.lo o.lexeme.span.lo (λ e. omega (arith, e, q.less)))) c.left;
-      leading = read_by _ (inl refl) _ c.rest (tok a T.Minus refl refl (R.part (R.by _ (inr (inr (inr (inr (inl refl))))) _ (R.part (R.by _ (inr (inr (inl refl))) _ (tok o T.OpenBracket refl refl (R.part (R.by _ (inr (inl refl)) _ (R.part x (R.part (R.by _ (inl refl) _ (tok c T.CloseBracket refl refl R.nothing)) R.nothing))) R.nothing))) (R.part (R.by _ (inl refl) _ R.nothing) R.nothing))) R.nothing)) (positive_is _ _ n.lexeme.span size suffix n.lexeme.content n.content (ne_eqb n.lexeme.span.lo o.lexeme.span.lo (λ e. omega (arith, e, q.less)))) c.left;
+      unary = read_by _ (inl refl) _ c.rest (tok a T.Minus refl refl (R.part (R.by _ (inr (inr (inr (inr (inl refl))))) _ (R.part (R.by _ (inr (inr (inl refl))) _ (tok o T.OpenBracket refl refl (R.part (R.by _ (inr (inl refl)) _ (R.part (R.by _ (inr (inr (inr (inl refl)))) _ (R.part (R.by _ (inl refl) _ (R.part (R.by _ (inl refl) _ (R.part (R.by _ (inl refl) _ (R.part (R.by _ (inl refl) _ (R.part (R.by _ (inl refl) _ (R.part (R.by _ (inl refl) _ (R.part (R.by _ (inl refl) _ (R.part (R.by _ (inl refl) _ (R.part (R.by _ (inl refl) _ (R.part (R.by _ (inl refl) _ (R.part (R.by _ (inr (inr (inr (inr (inl refl))))) _ (R.part (R.by _ (inl refl) _ (tok n T.Integer refl refl R.nothing)) (R.part (R.by _ (inl refl) _ R.nothing) R.nothing))) (R.part (R.by _ (inl refl) _ R.nothing) R.nothing))) (R.part (R.by _ (inl refl) _ R.nothing) R.nothing))) (R.part (R.by _ (inl refl) _ R.nothing) R.nothing))) (R.part (R.by _ (inl refl) _ R.nothing) R.nothing))) (R.part (R.by _ (inl refl) _ R.nothing) R.nothing))) (R.part (R.by _ (inl refl) _ R.nothing) R.nothing))) (R.part (R.by _ (inl refl) _ R.nothing) R.nothing))) (R.part (R.by _ (inl refl) _ R.nothing) R.nothing))) (R.part (R.by _ (inl refl) _ R.nothing) R.nothing))) (R.part (R.by _ (inl refl) _ R.nothing) R.nothing))) (R.part (R.by _ (inl refl) _ R.nothing) R.nothing))) (R.part (R.by _ (inl refl) _ (tok c T.CloseBracket refl refl R.nothing)) R.nothing))) R.nothing))) (R.part (R.by _ (inl refl) _ R.nothing) R.nothing))) R.nothing)) (positive_is _ _ n.lexeme.span size suffix n.lexeme.content n.content (ne_eqb n.lexeme.span.lo o.lexeme.span.lo (λ e. omega (arith, e, q.less)))) c.left;
+      leading = read_by _ (inl refl) _ c.rest (tok a T.Minus refl refl (R.part (R.by _ (inr (inr (inr (inr (inl refl))))) _ (R.part (R.by _ (inr (inr (inl refl))) _ (tok o T.OpenBracket refl refl (R.part (R.by _ (inr (inl refl)) _ (R.part (R.by _ (inr (inr (inr (inl refl)))) _ (R.part (R.by _ (inl refl) _ (R.part (R.by _ (inl refl) _ (R.part (R.by _ (inl refl) _ (R.part (R.by _ (inl refl) _ (R.part (R.by _ (inl refl) _ (R.part (R.by _ (inl refl) _ (R.part (R.by _ (inl refl) _ (R.part (R.by _ (inl refl) _ (R.part (R.by _ (inl refl) _ (R.part (R.by _ (inl refl) _ (R.part (R.by _ (inr (inr (inr (inr (inl refl))))) _ (R.part (R.by _ (inl refl) _ (tok n T.Integer refl refl R.nothing)) (R.part (R.by _ (inl refl) _ R.nothing) R.nothing))) (R.part (R.by _ (inl refl) _ R.nothing) R.nothing))) (R.part (R.by _ (inl refl) _ R.nothing) R.nothing))) (R.part (R.by _ (inl refl) _ R.nothing) R.nothing))) (R.part (R.by _ (inl refl) _ R.nothing) R.nothing))) (R.part (R.by _ (inl refl) _ R.nothing) R.nothing))) (R.part (R.by _ (inl refl) _ R.nothing) R.nothing))) (R.part (R.by _ (inl refl) _ R.nothing) R.nothing))) (R.part (R.by _ (inl refl) _ R.nothing) R.nothing))) (R.part (R.by _ (inl refl) _ R.nothing) R.nothing))) (R.part (R.by _ (inl refl) _ R.nothing) R.nothing))) (R.part (R.by _ (inl refl) _ R.nothing) R.nothing))) (R.part (R.by _ (inl refl) _ (tok c T.CloseBracket refl refl R.nothing)) R.nothing))) R.nothing))) (R.part (R.by _ (inl refl) _ R.nothing) R.nothing))) R.nothing)) (positive_is _ _ n.lexeme.span size suffix n.lexeme.content n.content (ne_eqb n.lexeme.span.lo o.lexeme.span.lo (λ e. omega (arith, e, q.less)))) c.left;
     }
 minus_by true (s.number w true size suffix) h r at more ls laid = no_true false refl h
 minus_by true (s.truth a0 a1) h r at more ls laid = no_true false refl h
