@@ -13,7 +13,7 @@ use Rattle.rust_ast.specs.declared.program.Fields.{Fields}
 use Rattle.rust_ast.specs.declared.program.Fields.TheVariants as has_fields
 use Rattle.rust_ast.specs.declared.program.Variant.{Variant}
 use Rattle.rust_ast.specs.SourceTypes as t
-use Rattle.std.proofs.Common.{◌∙◌}
+use Rattle.std.proofs.Common.{sym, ◌∙◌}
 use Rattle.std.proofs.lemmas.List.{append-nil}
 use Rattle.rust_printer.specs.Tok.{Tok, spelled}
 use Rattle.rust_printer.specs.Tokens.{lifetimes_tokens, names_tokens, generics_tokens, params_tokens, result_tokens, function_tokens, named_fields_tokens, fields_tokens, struct_tokens, variants_tokens, enum_tokens, item_tokens, items_tokens, program_tokens}
@@ -74,3 +74,6 @@ items_spelled (item ∷ items) more = simp (item_spelled item, items_spelled ite
 
 pub program_spelled : (x : Program) → spelled (program_tokens x) ≡ shown x
 program_spelled x = items_spelled x.items [] ∙ append-nil (items_text x.items)
+
+pub as_spelled : (x : Program) (text : List ℕ) → text ≡ shown x → text ≡ spelled (program_tokens x)
+as_spelled x text h = h ∙ sym (program_spelled x)

@@ -9,7 +9,13 @@ mod put;
 mod types;
 mod words;
 
-ghost use Rattle.std.specs.Prelude.{◌≡◌, IfOk};
+ghost use Rattle.std.specs.Prelude.{◌≡◌, IfOk, List};
+ghost use Rattle.rust_ast.specs.declared.program.Program.{Program};
+ghost use Rattle.rust_reader.specs.Reading.{Reads};
+ghost use Rattle.source_grammar.specs.declared.lexeme.Lexeme.{Lexeme};
+ghost use Rattle.rust_printer.specs.Bare.{Same};
+ghost use Rattle.rust_printer.specs.Laid.{Laid};
+ghost use Rattle.rust_printer.specs.Printable.{IsProgram};
 ghost use Rattle.rust_printer.specs.Tok.{spelled};
 ghost use Rattle.rust_printer.specs.Tokens.{program_tokens};
 
@@ -19,8 +25,10 @@ use std::alloc::Global;
 
 /// The text of a program, in time linear in its length: its tokens, each with a blank after it but for
 /// the dot of a field. The only error is want of memory.
+#[tactic(auto, using(crate::proofs::SpelledItems::as_spelled))]
 pub fn print(alloc: Global, program: &Program) -> Result<Text, NoMem>
-    ensures { IfOk result (λ t. t ≡ spelled (program_tokens program.now)) }
+    ensures layout { IfOk result (λ t. t ≡ spelled (program_tokens program.now)) }
+    ensures read_back { IsProgram program.now → (ls : List Lexeme) → Laid 0 (program_tokens program.now) ls → (q : Program) × (Reads ls q × Same q program.now) }
 {
     let mut out = String::new(alloc);
     items::put_items(&mut out, program.items.as_slice())?;
