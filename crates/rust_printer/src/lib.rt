@@ -1,4 +1,4 @@
-//! Prints a program as a source that is read as the same program (docs/LANGUAGE.md, "Grammar").
+//! Prints a program as a source: its tokens, each with a blank after it (docs/LANGUAGE.md, "Grammar").
 #![tactic(auto)]
 
 mod expressions;
