@@ -26,6 +26,20 @@ fn block_of(alloc: Global, whole: Span, body: Body) -> Result<Block, NoMem>
     })
 }
 
+/// `{}`.
+fn no_block(alloc: Global, whole: Span) -> Result<Block, NoMem>
+    ensures { IfOk result (λ it. it ≡ spec.no_block whole) }
+{
+    block_of(alloc, whole, without_statements(alloc, None))
+}
+
+/// A block of an expression alone.
+fn only_value(alloc: Global, whole: Span, value: Expr) -> Result<Block, NoMem>
+    ensures { IfOk result (λ it. it ≡ spec.only_value whole value) }
+{
+    block_of(alloc, whole, without_statements(alloc, Some(value)))
+}
+
 fn without_statements(alloc: Global, value: Option<Expr>) -> Body
     ensures { result ≡ record { statements = []; value = value } }
 {
@@ -213,6 +227,178 @@ pub fn matches(
         body: body.value,
         otherwise: other,
     }
+}
+
+/// One of two, by a condition.
+fn branch(alloc: Global, whole: Span, e: Expr, body: Block, other: Expr) -> Result<Expr, NoMem>
+    ensures { IfOk result (λ it. it ≡ s.branch whole e body other) }
+{
+    let e = Boxed::new(alloc, e)?;
+    let body = Boxed::new(alloc, body)?;
+    let other = Boxed::new(alloc, other)?;
+    Ok(Expr {
+        node: ExprNode::Branch(whole, e, body, other),
+    })
+}
+
+/// A block as an expression, in a box.
+fn boxed_inner(alloc: Global, block: Block) -> Result<Boxed<Expr>, NoMem>
+    ensures { IfOk result (λ it. it ≡ s.inner block) }
+{
+    let e = inner(alloc, block)?;
+    Boxed::new(alloc, e)
+}
+
+/// Two expressions, in boxes.
+fn both_boxed(alloc: Global, a: Expr, b: Expr) -> Result<(Boxed<Expr>, Boxed<Expr>), NoMem>
+    ensures { IfOk result (λ it. (it.0 ≡ a) × (it.1 ≡ b)) }
+{
+    let a = Boxed::new(alloc, a)?;
+    let b = Boxed::new(alloc, b)?;
+    Ok((a, b))
+}
+
+/// One of two, by whether a pattern matches.
+fn let_branch(
+    alloc: Global,
+    whole: Span,
+    pat: Pat,
+    e: Expr,
+    body: Block,
+    other: Expr,
+) -> Result<Expr, NoMem>
+    ensures { IfOk result (λ it. it ≡ s.let_branch whole pat e (s.inner body) other) }
+{
+    let body = boxed_inner(alloc, body)?;
+    let (e, other) = both_boxed(alloc, e, other)?;
+    Ok(Expr {
+        node: ExprNode::LetBranch(whole, pat, e, body, other),
+    })
+}
+
+/// One of two, by a condition or by whether a pattern matches.
+fn choice(
+    alloc: Global,
+    whole: Span,
+    condition: Condition,
+    body: Block,
+    other: Expr,
+) -> Result<Expr, NoMem>
+    ensures { IfOk result (λ it. it ≡ spec.choice whole condition body other) }
+{
+    match condition {
+        Condition::Holds(e) => branch(alloc, whole, e, body, other),
+        Condition::Matches(pat, e) => let_branch(alloc, whole, pat, e, body, other),
+    }
+}
+
+/// One of two, the other `{}`.
+fn choice_alone(
+    alloc: Global,
+    whole: Span,
+    condition: Condition,
+    body: Block,
+) -> Result<Expr, NoMem>
+    ensures { IfOk result (λ it. it ≡ spec.choice whole condition body (s.inner (spec.no_block whole))) }
+{
+    let empty = empty_block(alloc, whole)?;
+    choice(alloc, whole, condition, body, empty)
+}
+
+/// `{}` as an expression.
+fn empty_block(alloc: Global, whole: Span) -> Result<Expr, NoMem>
+    ensures { IfOk result (λ it. it ≡ s.inner (spec.no_block whole)) }
+{
+    let empty = no_block(alloc, whole)?;
+    inner(alloc, empty)
+}
+
+/// One of two: without `else` the other is `{}`.
+fn decided(alloc: Global, whole: Span, c: Conditional) -> Result<Expr, NoMem>
+    ensures { IfOk result (λ it. it ≡ spec.choice whole c.condition c.body (spec.otherwise whole c.otherwise)) }
+{
+    let Conditional {
+        condition,
+        body,
+        otherwise,
+    } = c;
+    match otherwise {
+        Some(other) => choice(alloc, whole, condition, body, other),
+        None => choice_alone(alloc, whole, condition, body),
+    }
+}
+
+/// `if` and `if let`. The only error is want of memory.
+pub fn if_expression(
+    alloc: Global,
+    whole: Span,
+    word: Lexeme,
+    c: Spanned<Conditional>,
+) -> Result<Expr, NoMem>
+    ensures { IfOk result (λ it. it ≡ spec.if_expression whole word c) }
+{
+    decided(alloc, whole, c.value)
+}
+
+/// `break`.
+fn leave(whole: Span) -> Expr
+    ensures { result ≡ s.leave whole s.no_maybeexpr }
+{
+    Expr {
+        node: ExprNode::Leave(whole, None),
+    }
+}
+
+/// `{ break }`.
+fn leaving_block(alloc: Global, whole: Span) -> Result<Expr, NoMem>
+    ensures { IfOk result (λ it. it ≡ s.inner (spec.only_value whole (s.leave whole s.no_maybeexpr))) }
+{
+    let block = only_value(alloc, whole, leave(whole))?;
+    inner(alloc, block)
+}
+
+/// One of two, the other `{ break }`.
+fn branch_or_leave(alloc: Global, whole: Span, e: Expr, body: Block) -> Result<Expr, NoMem>
+    ensures { IfOk result (λ it. it ≡ s.branch whole e body (s.inner (spec.only_value whole (s.leave whole s.no_maybeexpr)))) }
+{
+    let other = leaving_block(alloc, whole)?;
+    branch(alloc, whole, e, body, other)
+}
+
+/// One turn of a loop with `while`, which is left where the condition isn't met.
+fn one_turn(alloc: Global, whole: Span, condition: Condition, body: Block) -> Result<Expr, NoMem>
+    ensures { IfOk result (λ it. it ≡ spec.choice whole condition body (spec.leaving whole condition)) }
+{
+    match condition {
+        Condition::Holds(e) => branch_or_leave(alloc, whole, e, body),
+        Condition::Matches(pat, e) => let_branch(alloc, whole, pat, e, body, leave(whole)),
+    }
+}
+
+/// One turn of a loop with `while`, which has no `else`.
+fn turn_of(alloc: Global, whole: Span, c: Conditional) -> Result<Expr, NoMem>
+    ensures { IfOk result (λ it. it ≡ spec.choice whole c.condition c.body (spec.leaving whole c.condition)) }
+{
+    let Conditional {
+        condition,
+        body,
+        otherwise: _other,
+    } = c;
+    one_turn(alloc, whole, condition, body)
+}
+
+/// `while` and `while let`: a loop that is left where the condition isn't met. The only error is want of memory.
+pub fn while_expression(
+    alloc: Global,
+    whole: Span,
+    word: Lexeme,
+    c: Spanned<Conditional>,
+) -> Result<Expr, NoMem>
+    ensures { IfOk result (λ it. it ≡ spec.while_expression whole word c) }
+{
+    let turn = turn_of(alloc, whole, c.value)?;
+    let body = only_value(alloc, whole, turn)?;
+    forever(alloc, whole, true, body)
 }
 
 /// An arm, and those after it. The only error is want of memory.
