@@ -1,0 +1,53 @@
+-- What the tokens of a text come to (docs/LANGUAGE.md, "Grammar", "Limits", "Words of the command line").
+use Rattle.std.specs.Prelude.{◌≡◌, ℕ, List, [], ◌∷◌, Option, Some, None, MatchOption, Result, Ok, Err, length}
+use Rattle.aen_base.specs.declared.span.Span.{Span}
+use Rattle.table_reader.specs.declared.take.Take.TheVariants as K
+use Rattle.table_reader.specs.Reading as table
+use Rattle.rust_lex.specs.declared.token.Token.{Token}
+use Rattle.source_grammar.specs.declared.lexeme.Lexeme.{Lexeme}
+use Rattle.source_grammar.specs.declared.part.Part.TheVariants as N
+use Rattle.source_grammar.specs.declared.part.Listed.TheVariants as Of
+use Rattle.source_grammar.specs.declared.terminal.Terminal.TheVariants as T
+use Rattle.source_grammar.specs.Lexemes.{takes}
+use Rattle.source_syntax.specs.declared.refusal.Refusal.TheVariants as R
+use Rattle.source_syntax.specs.Refusals.{IsCause, IsKept}
+use Rattle.source_syntax.specs.Spelled.{lexemes}
+use Rattle.source_ways.specs.Carriers.{Carrier}
+use Rattle.source_ways.specs.Reading.{Reads, made}
+use Rattle.source_ways.specs.Says.{name_in}
+use Rattle.rust_ast.specs.declared.program.Program.{Program}
+use Rattle.rust_ast.specs.SourceTypes as t
+use Rattle.rust_reader.specs.declared.fault.ReadFault.{ReadFault}
+use Rattle.rust_reader.specs.declared.fault.ReadFault.TheVariants as F
+
+-- what the tokens of a text come to, up to a lexical fault: the program that its lexemes are read as, and no other, which
+-- is refused for nothing; or the first cause why it is refused. Want of memory alone may come at any text
+abbrev pub IsReading : List ℕ → List Token → Option Span → Result Program ReadFault → Type 0
+IsReading text ts bad (Ok p) = IsKept ts (lexemes text None ts) bad × Reads (lexemes text None ts) p × ((q : Program) → Reads (lexemes text None ts) q → q ≡ p)
+IsReading text ts bad (Err (F.Unsupported span)) = IsCause ts (lexemes text None ts) bad (length text) (R.Unsupported span)
+IsReading text ts bad (Err (F.Limit which n)) = IsCause ts (lexemes text None ts) bad (length text) (R.Limit which n)
+IsReading text ts bad (Err (F.Syntax span)) = IsCause ts (lexemes text None ts) bad (length text) (R.Syntax span)
+IsReading text ts bad (Err F.Memory) = Unit {0}
+
+-- types up to `>`
+abbrev pub ReadsList : List Lexeme → Carrier (N.List Of.TypesInAngles) → Type 0
+ReadsList ls v = table.Reads takes Carrier made (N.List Of.TypesInAngles) ls [] v
+
+-- what stands after a name there: nothing, or `::<` and types up to `>`
+pub data ReadsTypes : List Lexeme → List t.Written → Type 0 where
+  nothing : ReadsTypes [] []
+  given : (colons less : Lexeme) (rest : List Lexeme) (v : Carrier (N.List Of.TypesInAngles)) → takes T.Colons colons ≡ K.Whole → takes T.Less less ≡ K.Whole →
+      ReadsList rest v → ReadsTypes (colons ∷ (less ∷ rest)) v.value
+
+-- lexemes are a function's name, perhaps with types
+pub data ReadsCallName : List Lexeme → List ℕ → List t.Written → Type 0 where
+  by : (name : Lexeme) (rest : List Lexeme) (tys : List t.Written) → takes T.Identifier name ≡ K.Whole → ReadsTypes rest tys → ReadsCallName (name ∷ rest) (name_in name.content) tys
+
+-- the types after a name, or that lexemes are something else
+abbrev pub AreTypes : List Lexeme → Option (List t.Written) → Type 0
+AreTypes ls o = MatchOption o ((tys : List t.Written) → ReadsTypes ls tys → ⊥) (λ tys. ReadsTypes ls tys)
+
+-- of a text without a lexical fault: its name and types, or that it is none
+abbrev pub IsCallName : List Lexeme → Option Span → Option (List ℕ × List t.Written) → Type 0
+IsCallName ls bad o =
+    MatchOption o (bad ≡ None → (name : List ℕ) (tys : List t.Written) → ReadsCallName ls name tys → ⊥) (λ (name, tys). (bad ≡ None) × ReadsCallName ls name tys)

@@ -1,0 +1,9 @@
+-- What `build_block` calls builds the part. Written by tools/source_build.py.
+use Rattle.std.proofs.Common.{reverse}
+use Rattle.source_grammar.specs.declared.part.Part.TheVariants as N
+use Rattle.source_builder.proofs.Places.{built_at_place}
+use Rattle.source_builder.proofs.building.blocks.build_block.Goals as goal
+
+pub returns : goal.returns
+returns c =
+    built_at_place N.Block c.args.index 0 (reverse c.args.values.now) (reverse c.block_0.new.values) c.block_0.result c.in-0.is c.block_0.ensures

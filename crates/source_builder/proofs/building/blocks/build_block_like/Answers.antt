@@ -1,0 +1,25 @@
+-- What `build_block_like` calls builds the part. Written by tools/source_build.py.
+use Rattle.std.proofs.Common.{reverse, Ok}
+use Rattle.source_grammar.specs.declared.part.Part.TheVariants as N
+use Rattle.source_builder.proofs.Places.{built_at_place}
+use Rattle.source_builder.proofs.building.blocks.build_block_like.Goals as goal
+
+pub returns-in-0 : goal.returns-in-0
+returns-in-0 c =
+    built_at_place N.BlockLike c.args.index 0 (reverse c.args.values.now) (reverse c.block_like_0.new.values) c.block_like_0.result c.in-0.is c.block_like_0.ensures
+
+pub returns-in-1 : goal.returns-in-1
+returns-in-1 c =
+    built_at_place N.BlockLike c.args.index 1 (reverse c.args.values.now) (reverse c.block_like_1.new.values) (Ok c.block_like_1.result) c.in-1.is c.block_like_1.ensures
+
+pub returns-in-2 : goal.returns-in-2
+returns-in-2 c =
+    built_at_place N.BlockLike c.args.index 2 (reverse c.args.values.now) (reverse c.block_like_2.new.values) c.block_like_2.result c.in-2.is c.block_like_2.ensures
+
+pub returns-in-3 : goal.returns-in-3
+returns-in-3 c =
+    built_at_place N.BlockLike c.args.index 3 (reverse c.args.values.now) (reverse c.block_like_3.new.values) c.block_like_3.result c.in-3.is c.block_like_3.ensures
+
+pub returns-in-4 : goal.returns-in-4
+returns-in-4 c =
+    built_at_place N.BlockLike c.args.index 4 (reverse c.args.values.now) (reverse c.block_like_4.new.values) c.block_like_4.result c.in-4.is c.block_like_4.ensures

@@ -1,0 +1,9 @@
+-- What `build_if` calls builds the part. Written by tools/source_build.py.
+use Rattle.std.proofs.Common.{reverse}
+use Rattle.source_grammar.specs.declared.part.Part.TheVariants as N
+use Rattle.source_builder.proofs.Places.{built_at_place}
+use Rattle.source_builder.proofs.building.blocks.build_if.Goals as goal
+
+pub returns : goal.returns
+returns c =
+    built_at_place N.If c.args.index 0 (reverse c.args.values.now) (reverse c.if_0.new.values) c.if_0.result c.in-0.is c.if_0.ensures

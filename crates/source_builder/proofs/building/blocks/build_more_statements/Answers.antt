@@ -1,0 +1,21 @@
+-- What `build_more_statements` calls builds the part. Written by tools/source_build.py.
+use Rattle.std.proofs.Common.{reverse, Ok}
+use Rattle.source_grammar.specs.declared.part.Part.TheVariants as N
+use Rattle.source_builder.proofs.Places.{built_at_place}
+use Rattle.source_builder.proofs.building.blocks.build_more_statements.Goals as goal
+
+pub returns-in-0 : goal.returns-in-0
+returns-in-0 c =
+    built_at_place N.MoreStatements c.args.index 0 (reverse c.args.values.now) (reverse c.more_statements_0.new.values) (Ok c.more_statements_0.result) c.in-0.is c.more_statements_0.ensures
+
+pub returns-in-1 : goal.returns-in-1
+returns-in-1 c =
+    built_at_place N.MoreStatements c.args.index 1 (reverse c.args.values.now) (reverse c.more_statements_1.new.values) c.more_statements_1.result c.in-1.is c.more_statements_1.ensures
+
+pub returns-in-2 : goal.returns-in-2
+returns-in-2 c =
+    built_at_place N.MoreStatements c.args.index 2 (reverse c.args.values.now) (reverse c.more_statements_2.new.values) c.more_statements_2.result c.in-2.is c.more_statements_2.ensures
+
+pub returns-in-3 : goal.returns-in-3
+returns-in-3 c =
+    built_at_place N.MoreStatements c.args.index 3 (reverse c.args.values.now) (reverse c.more_statements_3.new.values) c.more_statements_3.result c.in-3.is c.more_statements_3.ensures

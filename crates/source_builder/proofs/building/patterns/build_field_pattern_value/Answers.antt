@@ -1,0 +1,13 @@
+-- What `build_field_pattern_value` calls builds the part. Written by tools/source_build.py.
+use Rattle.std.proofs.Common.{reverse, Ok}
+use Rattle.source_grammar.specs.declared.part.Part.TheVariants as N
+use Rattle.source_builder.proofs.Places.{built_at_place}
+use Rattle.source_builder.proofs.building.patterns.build_field_pattern_value.Goals as goal
+
+pub returns-in-0 : goal.returns-in-0
+returns-in-0 c =
+    built_at_place N.FieldPatternValue c.args.index 0 (reverse c.args.values.now) (reverse c.field_pattern_value_0.new.values) (Ok c.field_pattern_value_0.result) c.in-0.is c.field_pattern_value_0.ensures
+
+pub returns-in-1 : goal.returns-in-1
+returns-in-1 c =
+    built_at_place N.FieldPatternValue c.args.index 1 (reverse c.args.values.now) (reverse c.field_pattern_value_1.new.values) (Ok c.field_pattern_value_1.result) c.in-1.is c.field_pattern_value_1.ensures

@@ -1,0 +1,13 @@
+-- What `build_borrow_lifetime` calls builds the part. Written by tools/source_build.py.
+use Rattle.std.proofs.Common.{reverse, Ok}
+use Rattle.source_grammar.specs.declared.part.Part.TheVariants as N
+use Rattle.source_builder.proofs.Places.{built_at_place}
+use Rattle.source_builder.proofs.building.types.build_borrow_lifetime.Goals as goal
+
+pub returns-in-0 : goal.returns-in-0
+returns-in-0 c =
+    built_at_place N.BorrowLifetime c.args.index 0 (reverse c.args.values.now) (reverse c.borrow_lifetime_0.new.values) (Ok c.borrow_lifetime_0.result) c.in-0.is c.borrow_lifetime_0.ensures
+
+pub returns-in-1 : goal.returns-in-1
+returns-in-1 c =
+    built_at_place N.BorrowLifetime c.args.index 1 (reverse c.args.values.now) (reverse c.borrow_lifetime_1.new.values) c.borrow_lifetime_1.result c.in-1.is c.borrow_lifetime_1.ensures
