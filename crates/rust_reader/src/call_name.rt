@@ -25,6 +25,7 @@ use table_reader::{Grammar, Take};
 
 /// The name and the types of a function's name on the command line; None exactly where the text has a
 /// lexical fault or is not a name, or a name with `::<`, types and `>`. The only error is want of memory.
+#[tactic(auto, using(crate::proofs::CallNames::of_text))]
 pub fn read_call_name(
     alloc: Global,
     text: &str,
@@ -52,6 +53,7 @@ fn call_name(alloc: Global, lexemes: &[Lexeme]) -> Result<Option<(Name, List<Wri
 }
 
 /// The same of a first lexeme and the others.
+#[tactic(auto, using(crate::proofs::CallNames::no_identifier, crate::proofs::CallNames::no_types, crate::proofs::CallNames::is_named))]
 fn named(
     alloc: Global,
     first: &Lexeme,
@@ -96,6 +98,7 @@ fn types_after_colons(
 }
 
 /// The same of two lexemes and the others.
+#[tactic(auto, using(crate::proofs::CallNames::no_colons, crate::proofs::CallNames::no_less, crate::proofs::CallNames::in_angles))]
 fn types_in_angles(
     alloc: Global,
     colons: &Lexeme,
@@ -104,13 +107,17 @@ fn types_in_angles(
 ) -> Result<Option<List<Written>>, NoMem>
     ensures { IfOk result (λ o. spec.AreTypes (colons.now ∷ (less.now ∷ lexemes.now)) o) }
 {
-    if !is_taken(Terminal::Colons, colons) || !is_taken(Terminal::Less, less) {
+    if !is_taken(Terminal::Colons, colons) {
+        return Ok(None);
+    }
+    if !is_taken(Terminal::Less, less) {
         return Ok(None);
     }
     types_up_to_end(alloc, lexemes)
 }
 
 /// Types up to `>`; None exactly where lexemes are something else.
+#[tactic(auto, using(crate::proofs::CallNames::holds_types, crate::proofs::CallNames::listed))]
 fn types_up_to_end(alloc: Global, lexemes: &[Lexeme]) -> Result<Option<List<Written>>, NoMem>
     ensures { IfOk result (λ o. MatchOption o ((v : Carrier (N.List Of.TypesInAngles)) → spec.ReadsList lexemes.now v → ⊥) (λ tys. (v : Carrier (N.List Of.TypesInAngles)) × (spec.ReadsList lexemes.now v × (tys ≡ v.value)))) }
 {
