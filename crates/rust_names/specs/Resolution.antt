@@ -1,5 +1,5 @@
 -- A program with names resolved, or the first fault of its names (LANGUAGE.md, "Names", "Limits").
-use Rattle.std.specs.Prelude.{ℕ, ◌+◌, suc, Bool, true, false, ◌||◌, if◌then◌else◌, List, [], ◌∷◌, ◌++◌, length, map, Some, None, Result, Ok, Err, nat_lt, decimal}
+use Rattle.std.specs.Prelude.{ℕ, suc, Bool, true, false, ◌||◌, if◌then◌else◌, List, [], ◌∷◌, ◌++◌, length, map, Some, None, Result, Ok, Err, nat_lt, decimal}
 use Rattle.aen_base.specs.declared.span.Span.{Span}
 use Rattle.aen_base.specs.declared.limits.Which.TheVariants.{Functions, Variables}
 use Rattle.rust_ast.specs.SourceTypes as s
@@ -28,7 +28,7 @@ use Rattle.rust_names.specs.Tables.{names_of, tables_of}
 use Rattle.rust_names.specs.Scopes.{State, enter}
 use Rattle.rust_names.specs.TypeUses.{read_type, read_maybe_type}
 use Rattle.rust_names.specs.Twice.{Pair, twice}
-use Rattle.rust_names.specs.Walks.{each}
+use Rattle.rust_names.specs.Walks.{each, each_from}
 use Rattle.rust_names.specs.Uses.{read_block}
 
 abbrev pub only_parameters : List Ident → Generics
@@ -37,13 +37,12 @@ only_parameters xs = record { lifetimes = []; type_params = names_of xs }
 -- ---- declared types
 
 -- a field without a name has its place as its name
-abbrev pub placed_field : Tables → Generics → s.Written → ℕ → Result ((List ℕ × w.Written) × ℕ) Span
-placed_field t g x k = and_then (read_type t g x) (λ y. Ok ((decimal k, y), k + 1))
+abbrev pub placed_field : Tables → Generics → s.Written → ℕ → Result (List ℕ × w.Written) Span
+placed_field t g x k = and_then (read_type t g x) (λ y. Ok (decimal k, y))
 
 -- fields without names, the first of which has this place
 abbrev pub read_placed : Tables → Generics → ℕ → List s.Written → Result (List (List ℕ × w.Written)) Span
-read_placed t g k [] = Ok []
-read_placed t g k (x ∷ xs) = and_then (placed_field t g x k) (λ y. and_then (read_placed t g y.1 xs) (λ ys. Ok (y.0 ∷ ys)))
+read_placed t g k xs = each_from (placed_field t g) k xs
 
 abbrev pub named_field : Tables → Generics → Span × List ℕ × s.Written → Result (List ℕ × w.Written) Span
 named_field t g x = and_then (read_type t g x.2) (λ y. Ok (x.1, y))
@@ -66,9 +65,13 @@ read_struct t x =
     and_then (read_struct_fields t (only_parameters x.params) x.fields) (λ fs.
     Ok (record { name = x.name.name; span = x.name.span; params = names_of x.params; is_struct = true; variants = (x.name.name, fs) ∷ [] }))
 
+-- in the types of its variants the parameters of an enum may stand
+unfoldable pub enum_variants : Tables → enums.Enum → Result (List (List ℕ × List (List ℕ × w.Written))) Span
+enum_variants t x = read_variants t (only_parameters x.params) x.variants
+
 unfoldable pub read_enum : Tables → enums.Enum → Result Declared Span
 read_enum t x =
-    and_then (read_variants t (only_parameters x.params) x.variants) (λ vs.
+    and_then (enum_variants t x) (λ vs.
     Ok (record { name = x.name.name; span = x.name.span; params = names_of x.params; is_struct = false; variants = vs }))
 
 -- ---- functions

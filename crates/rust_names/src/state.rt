@@ -1,13 +1,128 @@
-use aen_base::{List, Name};
-use rust_ast::Variable;
+//! What is known where a part of a body stands.
+
+ghost use Rattle.std.specs.Prelude.{◌≡◌, length, IfOk};
+ghost use Rattle.rust_names.specs.Scopes as spec;
+
+use crate::lookups::number;
+use crate::scope::Scope;
+use aen_base::{List, NoMem, at};
+use rust_ast::{Ident, Variable};
+use std::alloc::Global;
 
 /// What is known where a part of a body stands.
 #[derive(Drop)]
 pub struct State {
     /// The names in scope with their variables, the newest last.
-    pub scope: List<(Name, u32)>,
+    pub(crate) scope: Scope,
     /// The function's variables so far, by number.
-    pub variables: List<Variable>,
+    pub(crate) variables: List<Variable>,
     /// How many loops there are so far.
-    pub loops: u32,
+    pub(crate) loops: u32,
+}
+
+impl State {
+    /// One variable more, which is not in scope yet.
+    pub(crate) fn with_variable(
+        self,
+        alloc: Global,
+        mutable: bool,
+        late: bool,
+        name: &Ident,
+    ) -> Result<State, NoMem>
+        ensures { IfOk result (λ st. st ≡ spec.with_variable mutable late name.now self) }
+    {
+        let State {
+            scope,
+            mut variables,
+            loops,
+        } = self;
+        variables.push(Variable {
+            name: name.name.try_clone(alloc)?,
+            span: name.span,
+            mutable,
+            late,
+        })?;
+        Ok(State {
+            scope,
+            variables,
+            loops,
+        })
+    }
+
+    /// The variables from one number to before another come into scope.
+    pub(crate) fn enter(self, alloc: Global, from: usize, to: usize) -> Result<State, NoMem>
+        ensures { IfOk result (λ st. st ≡ spec.enter from to self) }
+    {
+        let State {
+            scope,
+            variables,
+            loops,
+        } = self;
+        let scope = entered(alloc, scope, variables.as_slice(), from, to)?;
+        Ok(State {
+            scope,
+            variables,
+            loops,
+        })
+    }
+
+    /// What came into scope since it had this length leaves it.
+    pub(crate) fn leave(self, count: usize) -> Result<State, NoMem>
+        ensures { IfOk result (λ st. st ≡ spec.leave count self) }
+    {
+        let State {
+            scope,
+            variables,
+            loops,
+        } = self;
+        let scope = scope.first(count)?;
+        Ok(State {
+            scope,
+            variables,
+            loops,
+        })
+    }
+
+    /// One loop more.
+    pub(crate) fn with_loop(self) -> Result<State, NoMem>
+        ensures { IfOk result (λ st. st ≡ spec.with_loop self) }
+    {
+        let State {
+            scope,
+            variables,
+            loops,
+        } = self;
+        match loops.checked_add(1) {
+            Some(loops) => Ok(State {
+                scope,
+                variables,
+                loops,
+            }),
+            None => Err(NoMem),
+        }
+    }
+}
+
+/// The scope with the variables from one number to before another.
+fn entered(
+    alloc: Global,
+    scope: Scope,
+    variables: &[Variable],
+    from: usize,
+    to: usize,
+) -> Result<Scope, NoMem>
+    ensures { IfOk result (λ s. s ≡ spec.with_variables from to variables.now scope) }
+{
+    let mut scope = scope;
+    let mut place = from;
+    while place < to {
+        let Some(variable) = at(variables, place) else {
+            return Ok(scope);
+        };
+        let variable_number = number(place)?;
+        let more = scope.with(alloc, &variable.name, variable_number)?;
+        scope = more;
+        place += 1;
+    }
+    Ok(scope)
 }

@@ -1,12 +1,23 @@
-use aen_base::{List, Name, TypeId};
+ghost use Rattle.std.specs.Prelude.{◌≡◌};
+
+use crate::by_name::{ByName, Named};
+use aen_base::{Name, TypeId};
 
 /// A declared type as uses see it.
 #[derive(Drop)]
 pub struct TypeNames {
-    pub name: Name,
-    pub is_struct: bool,
+    pub(crate) name: Name,
+    pub(crate) is_struct: bool,
     /// The names of an enum's variants; a struct has none.
-    pub variants: List<Name>,
+    pub(crate) variants: ByName<Name>,
+}
+
+impl Named for TypeNames {
+    ghost name_of = { λ t. t.name };
+
+    fn name(&self) -> &Name {
+        &self.name
+    }
 }
 
 /// What a name of the space of functions and structs means.
@@ -25,24 +36,32 @@ pub enum Meaning {
 /// A function or a struct as uses see it.
 #[derive(Drop)]
 pub struct ValueNames {
-    pub name: Name,
-    pub meaning: Meaning,
+    pub(crate) name: Name,
+    pub(crate) meaning: Meaning,
+}
+
+impl Named for ValueNames {
+    ghost name_of = { λ v. v.name };
+
+    fn name(&self) -> &Name {
+        &self.name
+    }
 }
 
 /// What a program declares, as uses see it.
 #[derive(Drop)]
 pub struct Tables {
     /// The declared types in source order.
-    pub types: List<TypeNames>,
+    pub(crate) types: ByName<TypeNames>,
     /// The functions and structs in source order.
-    pub values: List<ValueNames>,
+    pub(crate) values: ByName<ValueNames>,
     /// Whether `use std::mem;` stands in it.
-    pub mem: bool,
+    pub(crate) mem: bool,
 }
 
 /// What an item declares for its own types.
 #[derive(Drop)]
 pub struct Generics {
-    pub lifetimes: List<Name>,
-    pub type_params: List<Name>,
+    pub(crate) lifetimes: ByName<Name>,
+    pub(crate) type_params: ByName<Name>,
 }

@@ -1,0 +1,10 @@
+use Rattle.std.proofs.Common.{◌≡◌, ap, sym, ◌∙◌}
+use Rattle.rust_names.specs.Resolution.{read_named}
+use Rattle.rust_names.specs.Walks.{behind}
+use Rattle.rust_names.proofs.Walking.{behind_nothing}
+use Rattle.rust_names.proofs.items.named_fields.Goals as goal
+
+pub loop-i-init : goal.loop-i-init
+loop-i-init c =
+    let whole = read_named c.args.tables.now c.args.generics.now c.args.fields.now in
+    sym (behind_nothing whole) ∙ ap (λ d. behind d whole) (sym c.new-done.ensures)

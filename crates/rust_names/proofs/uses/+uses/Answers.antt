@@ -1,0 +1,141 @@
+use Rattle.std.proofs.Common.{◌≡◌, ◌+◌, List, length, drop, ap, sym, ◌∙◌, arith}
+use Rattle.std.specs.Prelude.{Ok, false}
+use Rattle.rust_ast.specs.Resolved as r
+use Rattle.rust_ast.specs.Source as s
+use Rattle.rust_ast.specs.SourceTypes as types
+use Rattle.rust_ast.specs.Written as w
+use Rattle.rust_names.specs.PatternUses.{read_pat}
+use Rattle.rust_names.specs.TypeUses.{read_maybe_type}
+use Rattle.rust_names.specs.Uses.{read, read_maybe, read_stmts, read_stmt, read_block, under}
+use Rattle.rust_names.specs.Walks.{on_ok, walk, onward, in_form}
+use Rattle.rust_names.proofs.UseLists.{expr_item, init_item, arm_item, stmt_item, init, arm, walk_all, walk_inits, walk_arms, walk_stmts}
+use Rattle.rust_names.proofs.Bodies.{passes, passes_as, under_fails, under_gives, block_fails, block_gives, let_type_fails, let_value_fails, let_gives, branch_value_fails, branch_yes_fails, branch_no_fails, branch_gives}
+use Rattle.rust_names.proofs.Walking.{walk_start, walk_turn}
+use Rattle.rust_names.proofs.uses.+uses.Goals as goal
+
+pub resolve_all-loop-i-init : goal.resolve_all-loop-i-init
+resolve_all-loop-i-init t c =
+    let step = read c.args.tables.now c.args.generics.now in
+    walk_all c.args.tables.now c.args.generics.now c.args.items.now c.args.state
+    ∙ ap (on_ok (in_form r.exprs)) (sym (walk_start step (walk step c.args.items.now c.args.state)) ∙ ap (λ d. onward d (walk step c.args.items.now c.args.state)) (sym c.new-done.ensures))
+
+pub resolve_all-resolve_expr-requires : goal.resolve_all-resolve_expr-requires
+resolve_all-resolve_expr-requires t c =
+    let h = expr_item c.args.items.now c.loop-i.i c.index-items-i.result (omega arith) c.index-items-i.is in
+    (omega (arith, h), tt)
+
+pub resolve_inits-loop-i-init : goal.resolve_inits-loop-i-init
+resolve_inits-loop-i-init t c =
+    let step = init c.args.tables.now c.args.generics.now in
+    walk_inits c.args.tables.now c.args.generics.now c.args.items.now c.args.state
+    ∙ ap (on_ok (in_form r.inits)) (sym (walk_start step (walk step c.args.items.now c.args.state)) ∙ ap (λ d. onward d (walk step c.args.items.now c.args.state)) (sym c.new-done.ensures))
+
+pub resolve_inits-resolve_init-requires : goal.resolve_inits-resolve_init-requires
+resolve_inits-resolve_init-requires t c =
+    let h = init_item c.args.items.now c.loop-i.i c.index-items-i.result (omega arith) c.index-items-i.is in
+    (omega (arith, h), tt)
+
+pub resolve_arms-loop-i-init : goal.resolve_arms-loop-i-init
+resolve_arms-loop-i-init t c =
+    let step = arm c.args.tables.now c.args.generics.now in
+    walk_arms c.args.tables.now c.args.generics.now c.args.items.now c.args.state
+    ∙ ap (on_ok (in_form r.arms)) (sym (walk_start step (walk step c.args.items.now c.args.state)) ∙ ap (λ d. onward d (walk step c.args.items.now c.args.state)) (sym c.new-done.ensures))
+
+pub resolve_arms-resolve_arm-requires : goal.resolve_arms-resolve_arm-requires
+resolve_arms-resolve_arm-requires t c =
+    let h = arm_item c.args.items.now c.loop-i.i c.index-items-i.result (omega arith) c.index-items-i.is in
+    (omega (arith, h), tt)
+
+pub resolve_stmts-loop-i-init : goal.resolve_stmts-loop-i-init
+resolve_stmts-loop-i-init t c =
+    let step = read_stmt c.args.tables.now c.args.generics.now in
+    walk_stmts c.args.tables.now c.args.generics.now c.args.items.now c.args.state
+    ∙ ap (on_ok (in_form r.stmts)) (sym (walk_start step (walk step c.args.items.now c.args.state)) ∙ ap (λ d. onward d (walk step c.args.items.now c.args.state)) (sym c.new-done.ensures))
+
+pub resolve_stmts-resolve_stmt-requires : goal.resolve_stmts-resolve_stmt-requires
+resolve_stmts-resolve_stmt-requires t c =
+    let h = stmt_item c.args.items.now c.loop-i.i c.index-items-i.result (omega arith) c.index-items-i.is in
+    (omega (arith, h), tt)
+
+pub resolve_arms-loop-i-preserved : goal.resolve_arms-loop-i-preserved
+resolve_arms-loop-i-preserved t c =
+    let step = arm c.args.tables.now c.args.generics.now in
+    let rest = walk step (drop (c.loop-i.i + 1) c.args.items.now) c.in_ok-arm.next in
+    c.loop-i.invariant ∙ ap (on_ok (in_form r.arms)) (
+    walk_turn step c.args.items.now c.loop-i.i c.loop-i.done c.loop-i.state c.index-items-i.result c.in_ok-arm.arm c.in_ok-arm.next (omega arith) c.index-items-i.is c.in_ok-arm.ensures
+    ∙ ap (λ d. onward d rest) (sym c.in_ok-push.ensures.ok))
+
+pub resolve_inits-loop-i-preserved : goal.resolve_inits-loop-i-preserved
+resolve_inits-loop-i-preserved t c =
+    let step = init c.args.tables.now c.args.generics.now in
+    let rest = walk step (drop (c.loop-i.i + 1) c.args.items.now) c.in_ok-item.next in
+    c.loop-i.invariant ∙ ap (on_ok (in_form r.inits)) (
+    walk_turn step c.args.items.now c.loop-i.i c.loop-i.done c.loop-i.state c.index-items-i.result c.in_ok-item.item c.in_ok-item.next (omega arith) c.index-items-i.is c.in_ok-item.ensures
+    ∙ ap (λ d. onward d rest) (sym c.in_ok-push.ensures.ok))
+
+pub resolve_arm-returns-in_err-body : goal.resolve_arm-returns-in_err-body
+resolve_arm-returns-in_err-body t c =
+    passes (read c.args.tables.now c.args.generics.now c.args.arm.now.1 c.in_ok-state.state) (under (read_pat c.args.tables.now c.args.generics.now false c.args.arm.now.0 c.args.state) (length c.args.state.variables) (read c.args.tables.now c.args.generics.now c.args.arm.now.1)) c.from_residual-in_err-body.result c.in_err-body.field-0.0
+    c.in_err-body.ensures c.from_residual-in_err-body.ensures.1 (λ q h.
+    under_fails (read_pat c.args.tables.now c.args.generics.now false c.args.arm.now.0 c.args.state) (length c.args.state.variables) c.len-from.result c.len-to.result (read c.args.tables.now c.args.generics.now c.args.arm.now.1) c.in_ok-pat.pat c.in_ok-pat.state c.in_ok-state.state q
+    c.in_ok-pat.ensures c.len-from.ensures c.len-to.ensures c.in_ok-state.ensures h)
+
+pub resolve_arm-returns : goal.resolve_arm-returns
+resolve_arm-returns t c =
+    under_gives (read_pat c.args.tables.now c.args.generics.now false c.args.arm.now.0 c.args.state) (length c.args.state.variables) c.len-from.result c.len-to.result c.len-count.result (read c.args.tables.now c.args.generics.now c.args.arm.now.1) c.in_ok-pat.pat c.in_ok-body.body c.in_ok-pat.state c.in_ok-state.state c.in_ok-body.state c.in_ok-leave.field-0
+    c.in_ok-pat.ensures c.len-from.ensures c.len-to.ensures c.in_ok-state.ensures c.in_ok-body.ensures c.len-count.ensures c.in_ok-leave.ensures
+
+pub block_of-returns-in_err-last : goal.block_of-returns-in_err-last
+block_of-returns-in_err-last t c =
+    let ss = s.stmts c.args.statements.now in
+    let o = s.maybeexpr c.args.last.now in
+    passes_as (in_form r.maybeexpr) (read_maybe c.args.tables.now c.args.generics.now o c.in_ok-statements.inner) (read_block c.args.tables.now c.args.generics.now (s.block c.args.span ss o) c.args.state) c.from_residual-in_err-last.result c.in_err-last.field-0.0
+    c.in_err-last.ensures c.from_residual-in_err-last.ensures.1 (λ q h.
+    block_fails c.args.tables.now c.args.generics.now c.args.span ss o c.args.state c.in_ok-statements.inner (r.stmts c.in_ok-statements.statements) q c.in_ok-statements.ensures h)
+
+pub block_of-returns : goal.block_of-returns
+block_of-returns t c =
+    block_gives c.args.tables.now c.args.generics.now c.args.span (s.stmts c.args.statements.now) (s.maybeexpr c.args.last.now) c.len-count.result c.args.state c.in_ok-statements.inner c.in_ok-last.after c.in_ok-outer.outer
+    (r.stmts c.in_ok-statements.statements) (r.maybeexpr c.in_ok-last.last) c.in_ok-statements.ensures c.in_ok-last.ensures c.len-count.ensures c.in_ok-outer.ensures
+
+pub resolve_let-returns-in_err-ty : goal.resolve_let-returns-in_err-ty
+resolve_let-returns-in_err-ty t c =
+    passes_as w.maybewritten (read_maybe_type c.args.tables.now c.args.generics.now (types.maybewritten c.args.ty.now)) (read_stmt c.args.tables.now c.args.generics.now (s.bind c.args.span c.args.pat.now (types.maybewritten c.args.ty.now) (s.maybeexpr c.args.value.now)) c.args.state) c.from_residual-in_err-ty.result c.in_err-ty.field-0.0
+    c.in_err-ty.ensures c.from_residual-in_err-ty.ensures.1 (λ q h.
+    let_type_fails c.args.tables.now c.args.generics.now c.args.span c.args.pat.now (types.maybewritten c.args.ty.now) (s.maybeexpr c.args.value.now) c.args.state c.in_ok-pat.bound c.is_nothing-late.result c.in_ok-pat.pat q c.is_nothing-late.ensures c.in_ok-pat.ensures h)
+
+pub resolve_let-returns-in_err-value : goal.resolve_let-returns-in_err-value
+resolve_let-returns-in_err-value t c =
+    passes_as (in_form r.maybeexpr) (read_maybe c.args.tables.now c.args.generics.now (s.maybeexpr c.args.value.now) c.in_ok-pat.bound) (read_stmt c.args.tables.now c.args.generics.now (s.bind c.args.span c.args.pat.now (types.maybewritten c.args.ty.now) (s.maybeexpr c.args.value.now)) c.args.state) c.from_residual-in_err-value.result c.in_err-value.field-0.0
+    c.in_err-value.ensures c.from_residual-in_err-value.ensures.1 (λ q h.
+    let_value_fails c.args.tables.now c.args.generics.now c.args.span c.args.pat.now (types.maybewritten c.args.ty.now) (s.maybeexpr c.args.value.now) c.args.state c.in_ok-pat.bound c.is_nothing-late.result c.in_ok-pat.pat (w.maybewritten c.in_ok-ty.ty) q c.is_nothing-late.ensures c.in_ok-pat.ensures c.in_ok-ty.ensures h)
+
+pub resolve_let-returns : goal.resolve_let-returns
+resolve_let-returns t c =
+    let_gives c.args.tables.now c.args.generics.now c.args.span c.args.pat.now (types.maybewritten c.args.ty.now) (s.maybeexpr c.args.value.now) c.len-from.result c.len-to.result c.args.state c.in_ok-pat.bound c.in_ok-value.after c.in_ok-entered.entered c.is_nothing-late.result c.in_ok-pat.pat (w.maybewritten c.in_ok-ty.ty)
+    (r.maybeexpr c.in_ok-value.value) c.is_nothing-late.ensures c.in_ok-pat.ensures c.in_ok-ty.ensures c.in_ok-value.ensures c.len-from.ensures c.len-to.ensures c.in_ok-entered.ensures
+
+pub let_branch-returns-in_err-scrutinee : goal.let_branch-returns-in_err-scrutinee
+let_branch-returns-in_err-scrutinee t c =
+    passes (read c.args.tables.now c.args.generics.now c.args.value.now c.in_ok-pat.bound) (read c.args.tables.now c.args.generics.now (s.let_branch c.args.span c.args.pat.now c.args.value.now c.args.matched.now c.args.other.now) c.args.state) c.from_residual-in_err-scrutinee.result c.in_err-scrutinee.field-0.0 c.in_err-scrutinee.ensures c.from_residual-in_err-scrutinee.ensures.1 (λ q h.
+    branch_value_fails c.args.tables.now c.args.generics.now c.args.span c.args.pat.now c.args.value.now c.args.matched.now c.args.other.now c.args.state c.in_ok-pat.bound c.in_ok-pat.pat q c.in_ok-pat.ensures h)
+
+pub let_branch-returns-in_err-matched : goal.let_branch-returns-in_err-matched
+let_branch-returns-in_err-matched t c =
+    passes (read c.args.tables.now c.args.generics.now c.args.matched.now c.in_ok-inner.inner) (read c.args.tables.now c.args.generics.now (s.let_branch c.args.span c.args.pat.now c.args.value.now c.args.matched.now c.args.other.now) c.args.state) c.from_residual-in_err-matched.result c.in_err-matched.field-0.0 c.in_err-matched.ensures c.from_residual-in_err-matched.ensures.1 (λ q h.
+    branch_yes_fails c.args.tables.now c.args.generics.now c.args.span c.args.pat.now c.args.value.now c.args.matched.now c.args.other.now c.len-from.result c.len-to.result c.args.state c.in_ok-pat.bound c.in_ok-scrutinee.known c.in_ok-inner.inner c.in_ok-pat.pat c.in_ok-scrutinee.scrutinee q
+    c.in_ok-pat.ensures c.in_ok-scrutinee.ensures c.len-from.ensures c.len-to.ensures c.in_ok-inner.ensures h)
+
+pub let_branch-returns-in_err-other : goal.let_branch-returns-in_err-other
+let_branch-returns-in_err-other t c =
+    passes (read c.args.tables.now c.args.generics.now c.args.other.now c.in_ok-outer.outer) (read c.args.tables.now c.args.generics.now (s.let_branch c.args.span c.args.pat.now c.args.value.now c.args.matched.now c.args.other.now) c.args.state) c.from_residual-in_err-other.result c.in_err-other.field-0.0 c.in_err-other.ensures c.from_residual-in_err-other.ensures.1 (λ q h.
+    branch_no_fails c.args.tables.now c.args.generics.now c.args.span c.args.pat.now c.args.value.now c.args.matched.now c.args.other.now c.len-from.result c.len-to.result c.len-count.result c.args.state c.in_ok-pat.bound c.in_ok-scrutinee.known c.in_ok-inner.inner c.in_ok-matched.after c.in_ok-outer.outer
+    c.in_ok-pat.pat c.in_ok-scrutinee.scrutinee c.in_ok-matched.matched q
+    c.in_ok-pat.ensures c.in_ok-scrutinee.ensures c.len-from.ensures c.len-to.ensures c.in_ok-inner.ensures c.in_ok-matched.ensures c.len-count.ensures c.in_ok-outer.ensures h)
+
+pub let_branch-returns : goal.let_branch-returns
+let_branch-returns t c =
+    branch_gives c.args.tables.now c.args.generics.now c.args.span c.args.pat.now c.args.value.now c.args.matched.now c.args.other.now c.len-from.result c.len-to.result c.len-count.result c.args.state c.in_ok-pat.bound c.in_ok-scrutinee.known c.in_ok-inner.inner c.in_ok-matched.after c.in_ok-outer.outer c.in_ok-other.last
+    c.in_ok-pat.pat c.in_ok-scrutinee.scrutinee c.in_ok-matched.matched c.in_ok-other.other
+    c.in_ok-pat.ensures c.in_ok-scrutinee.ensures c.len-from.ensures c.len-to.ensures c.in_ok-inner.ensures c.in_ok-matched.ensures c.len-count.ensures c.in_ok-outer.ensures c.in_ok-other.ensures
+    ∙ ap (λ e. Ok (e, c.in_ok-other.last)) (sym c.in_ok-select.ensures)
