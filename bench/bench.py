@@ -25,7 +25,7 @@ BINDS_A_TURN = 3
 
 
 def many_functions(size):
-    """Functions with lets, sums of ten terms and a call of the function before."""
+    """Functions with lets, sums of ten terms and a call of the function before: at most 4,096 of them."""
     parts, length, k = [], 0, 0
     while True:
         call = f" + step{k - 1}(c, a)" if k else ""
@@ -33,7 +33,10 @@ def many_functions(size):
             f"fn step{k}(a: u32, b: u32) -> u32 {{\n"
             f"    let c = a + b + {k} + a + b + 2 + a + b + 3 + a;\n"
             f"    let d = c + c{call};\n"
-            "    d + 1 + a + 2 + b + 3 + c + 4 + d + 5\n}\n"
+            "    let e = d + 1 + a + 2 + b + 3 + c + 4 + d + 5;\n"
+            "    let f = e + d + c + b + a + 6 + e + 7 + d + 8 + c;\n"
+            "    let g = f + e + d + c + b + 9 + f + 10 + e + 11;\n"
+            "    g + 1 + a + 2 + b + 3 + c + 4 + d + 5\n}\n"
         )
         if length + len(text) > size:
             return "".join(parts)
@@ -43,12 +46,13 @@ def many_functions(size):
 
 
 def many_lets(size):
-    """One function with many lets, each using the first and the last variable."""
-    parts, length, k = ["fn f(x: u32) -> u32 {\n"], 100, 0
+    """Functions with 900 lets each, each using the first and the last variable."""
+    parts, length, k = [], 0, 0
     while True:
-        text = f"let y{k} = x + {'y%d' % (k - 1) if k else 'x'};\n"
+        lets = [f"    let y{j} = x + {'y%d' % (j - 1) if j else 'x'};\n" for j in range(900)]
+        text = f"fn f{k}(x: u32) -> u32 {{\n{''.join(lets)}    y899 }}\n"
         if length + len(text) > size:
-            return "".join(parts) + f"y{k - 1} }}"
+            return "".join(parts)
         parts.append(text)
         length += len(text)
         k += 1

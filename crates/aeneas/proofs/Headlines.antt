@@ -31,6 +31,8 @@ refused R.Read e = absurd cc
 refused (R.Utf8 valid) e = absurd cc
 refused (R.Syntax span) e = absurd cc
 refused (R.Unsupported span) e = absurd cc
+refused (R.Unknown span) e = absurd cc
+refused (R.Twice first second) e = absurd cc
 refused R.Later e = absurd cc
 refused (R.Limit which count) e = absurd cc
 refused (R.Count expected given) e = absurd cc
@@ -43,7 +45,7 @@ by_reply : (s : Seen) (file : List ℕ) (k : Sunk) (status : ℕ) (text : List �
 by_reply s file k status text given zero (inl r) = absurd (refused r.refusal (sym r.answer.0 ∙ zero))
 by_reply s file k status text given zero (inr t) = record {
   read = t.source.read;
-  holds = record { program = t.program; is_program = t.source.holds.is_program; is_text = subst (λ x. IsTextOf t.program x) (sym given) t.is_text };
+  holds = record { program = t.program; is_program = t.source.holds; is_text = subst (λ x. IsTextOf t.program x) (sym given) t.is_text };
 }
 
 pub headline : (words : List (List ℕ)) (s : Seen) (k : Sunk) (status : ℕ) (text : List ℕ) → IsReply words s status text → WritesAll k.old k.new text →

@@ -6,3 +6,4 @@ pub mod DefinitionWords
 pub mod Evaluations
 pub mod Replying
 pub mod Headlines
+pub mod Sources

@@ -20,8 +20,7 @@ use Rattle.aeneas.specs.PrintedFound.{IsPrintedFound, IsPrintedFoundIn}
 use Rattle.aeneas.specs.Refusals.{IsRefusal}
 use Rattle.aeneas.specs.Run.{FaultReply, CallReply}
 use Rattle.aeneas.specs.Seen.{Seen, IsReadWhole, bytes_read}
-use Rattle.aeneas.specs.SourceFound.{IsFound, IsFoundIn, IsFoundKept}
-use Rattle.aeneas.specs.Syntax.{KeepsSyntax}
+use Rattle.aeneas.specs.SourceFound.{IsFound, IsFoundIn}
 
 -- a file that was read whole
 pub read_whole : (which : Which) (s : Seen) (file bytes : List ℕ) → IsWhole file s.handed bytes → length bytes ≤ greatest which → OfContent s.told file (λ c. bytes ≡ c) →
@@ -40,11 +39,6 @@ source_found s file bytes e read (S.Refused r) h = inr (record { read = read; ho
 pub text_found : (s : Seen) (file bytes : List ℕ) → bytes ≡ bytes_read s → IsReadWhole L.Text s file → (printed : Printed) → IsPrintedFoundIn bytes printed → IsPrintedFound s file printed
 text_found s file bytes e read (P.Read defs) h = record { read = read; holds = subst (λ xs. IsPrintedFoundIn xs (P.Read defs)) e h }
 text_found s file bytes e read (P.Refused r) h = inr (record { read = read; holds = subst (λ xs. IsPrintedFoundIn xs (P.Refused r)) e h })
-
--- what is found in a content that keeps the language's grammar
-pub kept_found : (content : List ℕ) → KeepsSyntax content → (source : Source) → IsFoundKept content source → IsFoundIn content source
-kept_found content k (S.Read p) h = record { kept = k; is_program = h }
-kept_found content k (S.Refused r) h = inr (inr (record { is = h.0; kept = k; cause = h.1 }))
 
 -- words that are no arguments of a function
 pub refused_call : (p : Program) (k : ℕ) (f : Function) (words : List (List ℕ)) (n : ℕ) (fault : ArgFault) →

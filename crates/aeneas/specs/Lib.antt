@@ -5,6 +5,7 @@ pub mod Refusals
 pub mod Seen
 pub mod Utf8
 pub mod Syntax
+pub mod Names
 pub mod Translation
 pub mod Source
 pub mod Run

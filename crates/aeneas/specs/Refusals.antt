@@ -3,7 +3,7 @@ use Rattle.std.specs.Prelude.{◌≡◌, ℕ, List, ◌++◌, codes}
 use Rattle.std.specs.Fmt.{decimal}
 use Rattle.aen_base.specs.declared.span.Span.{Span}
 use Rattle.aeneas.specs.declared.refusal.Refusal.{Refusal}
-use Rattle.aeneas.specs.declared.refusal.Refusal.TheVariants.{Usage, Read, Utf8, Syntax, Unsupported, Later, Limit, Count, Argument, Types, Text, Name}
+use Rattle.aeneas.specs.declared.refusal.Refusal.TheVariants.{Usage, Read, Utf8, Syntax, Unsupported, Unknown, Twice, Later, Limit, Count, Argument, Types, Text, Name}
 use Rattle.aeneas.specs.Limits.{limit_word}
 use Rattle.aeneas.specs.Lines.{line}
 
@@ -14,6 +14,8 @@ refusal_status Read = 2
 refusal_status (Utf8 valid) = 4
 refusal_status (Syntax span) = 5
 refusal_status (Unsupported span) = 6
+refusal_status (Unknown span) = 7
+refusal_status (Twice first second) = 7
 refusal_status Later = 30
 refusal_status (Limit which count) = 10
 refusal_status (Count expected given) = 11
@@ -26,6 +28,11 @@ refusal_status Name = 13
 abbrev pub place_text : List ℕ → Span → List ℕ
 place_text word span = word ++ (codes " " ++ (decimal span.lo ++ (codes ".." ++ decimal span.hi)))
 
+-- a word and two places
+abbrev pub places_text : List ℕ → Span → Span → List ℕ
+places_text word first second =
+    word ++ (codes " " ++ (decimal first.lo ++ (codes ".." ++ (decimal first.hi ++ (codes " " ++ (decimal second.lo ++ (codes ".." ++ decimal second.hi)))))))
+
 -- what the line says of it
 abbrev pub refusal_text : Refusal → List ℕ
 refusal_text Usage = codes "usage"
@@ -33,6 +40,8 @@ refusal_text Read = codes "read"
 refusal_text (Utf8 valid) = codes "utf8 " ++ decimal valid
 refusal_text (Syntax span) = place_text (codes "syntax") span
 refusal_text (Unsupported span) = place_text (codes "unsupported") span
+refusal_text (Unknown span) = place_text (codes "unknown") span
+refusal_text (Twice first second) = places_text (codes "twice") first second
 refusal_text Later = codes "later"
 refusal_text (Limit which count) = codes "limit " ++ (limit_word which ++ (codes " " ++ decimal count))
 refusal_text (Count expected given) = codes "count " ++ (decimal expected ++ (codes " " ++ decimal given))

@@ -1,6 +1,6 @@
 ghost use Rattle.std.specs.Prelude.{◌≡◌, IfOk};
 ghost use Rattle.std.specs.String.{string_bytes};
-ghost use Rattle.aeneas.specs.Refusals.{refusal_status, refusal_text, refusal_line, place_text};
+ghost use Rattle.aeneas.specs.Refusals.{refusal_status, refusal_text, refusal_line, place_text, places_text};
 
 use crate::limits::limit_word;
 use aen_base::{NoMem, Span, Text, Which};
@@ -19,7 +19,11 @@ pub enum Refusal {
     Syntax(Span),
     /// The first word of the source that is left out of the language.
     Unsupported(Span),
-    /// The source keeps the language's grammar, and isn't in what is translated today.
+    /// What is used there is declared nowhere.
+    Unknown(Span),
+    /// Both places declare one name, the first of them first.
+    Twice(Span, Span),
+    /// The names of the source are resolved, and it isn't in what is translated today.
     Later,
     /// A count passes its limit: which one, and the limit plus one, or for FUEL the number given.
     Limit(Which, u64),
@@ -46,6 +50,7 @@ impl Refusal {
             Refusal::Utf8(_) => 4,
             Refusal::Syntax(_) => 5,
             Refusal::Unsupported(_) => 6,
+            Refusal::Unknown(_) | Refusal::Twice(_, _) => 7,
             Refusal::Later => 30,
             Refusal::Limit(_, _) => 10,
             Refusal::Count(_, _) | Refusal::Argument(_) | Refusal::Types => 11,
@@ -74,6 +79,8 @@ impl Refusal {
             Refusal::Utf8(valid) => format!(in alloc; "utf8 {valid}")?,
             Refusal::Syntax(span) => place_text(alloc, "syntax", span)?,
             Refusal::Unsupported(span) => place_text(alloc, "unsupported", span)?,
+            Refusal::Unknown(span) => place_text(alloc, "unknown", span)?,
+            Refusal::Twice(first, second) => places_text(alloc, "twice", first, second)?,
             Refusal::Later => String::from_str(alloc, "later")?,
             Refusal::Limit(which, count) => {
                 let word = limit_word(which);
@@ -95,4 +102,13 @@ fn place_text(alloc: Global, word: &str, span: Span) -> Result<String, NoMem>
 {
     let (lo, hi) = (span.lo, span.hi);
     Ok(format!(in alloc; "{word} {lo}..{hi}")?)
+}
+
+/// A word and two places. The only error is want of memory.
+fn places_text(alloc: Global, word: &str, first: Span, second: Span) -> Result<String, NoMem>
+    ensures { IfOk result (λ t. string_bytes t ≡ places_text word.now first second) }
+{
+    let (a, b) = (first.lo, first.hi);
+    let (c, d) = (second.lo, second.hi);
+    Ok(format!(in alloc; "{word} {a}..{b} {c}..{d}")?)
 }

@@ -1,18 +1,21 @@
-ghost use Rattle.std.specs.Prelude.{◌≡◌, ◌<◌, ◌^◌, ◌++◌, IfOk, length};
+ghost use Rattle.std.specs.Prelude.{◌≡◌, ◌<◌, ◌≤◌, ◌^◌, ◌++◌, IfOk, length};
+ghost use Rattle.rust_ast.specs.declared.resolution.Function as resolution;
+ghost use Rattle.rust_names.specs.Naming.{Each, Differ, function_names};
 ghost use Rattle.aen_io.specs.Handed.{since};
 ghost use Rattle.aeneas.specs.Seen.{seen};
-ghost use Rattle.aeneas.specs.SourceFound.{IsFound, IsFoundIn, IsFoundKept};
-ghost use Rattle.aeneas.specs.Syntax.{told};
+ghost use Rattle.aeneas.specs.SourceFound.{IsFound, IsFoundIn, IsFoundResolved, IsFoundWritten, IsRefusedAs, IsUnread};
 
 use crate::limits::greatest;
 use crate::refusal::Refusal;
 use aen_base::{NoMem, Which};
 use aen_io::{Files, ReadAll, read_all};
+use rust_ast::Resolved;
 use rust_lex::lex;
-use source_syntax::syntax_refusal;
+use rust_names::{NameFault, resolve};
+use rust_reader::{ReadFault, read};
+use rust_sums::{SumsFault, sums_of};
 use std::alloc::Global;
 use sums_ast::Program;
-use sums_reader::{ReadFault, read};
 
 /// A file as a source: its program, or its refusal.
 #[derive(Drop)]
@@ -54,31 +57,55 @@ fn text_program(alloc: Global, text: &str) -> Result<Source, NoMem>
     ensures { IfOk result (IsFoundIn text.now) }
 {
     let tokens = lex(alloc, text)?;
-    match syntax_refusal(alloc, text, &tokens)? {
-        Some(fault) => Ok(Source::Refused(told(fault))),
-        None => program_of(alloc, text.as_bytes()),
+    match read(alloc, text, &tokens) {
+        Ok(program) => written_program(alloc, &program),
+        Err(fault) => unread(fault),
     }
 }
 
-/// How a refusal of tokens is told.
-fn told(fault: source_syntax::Refusal) -> Refusal
-    ensures { result ≡ told fault }
+/// The refusal of tokens that are no program.
+fn unread(fault: ReadFault) -> Result<Source, NoMem>
+    ensures { IfOk result (IsUnread fault) }
 {
     match fault {
-        source_syntax::Refusal::Unsupported(span) => Refusal::Unsupported(span),
-        source_syntax::Refusal::Limit(which, count) => Refusal::Limit(which, count),
-        source_syntax::Refusal::Syntax(span) => Refusal::Syntax(span),
+        ReadFault::Unsupported(span) => Ok(Source::Refused(Refusal::Unsupported(span))),
+        ReadFault::Limit(which, count) => Ok(Source::Refused(Refusal::Limit(which, count))),
+        ReadFault::Syntax(span) => Ok(Source::Refused(Refusal::Syntax(span))),
+        ReadFault::Memory => Err(NoMem),
     }
 }
 
-/// The program that a content is which keeps the language's grammar.
-fn program_of(alloc: Global, content: &[u8]) -> Result<Source, NoMem>
-    requires { length content.now < 2 ^ 32 }
-    ensures { IfOk result (IsFoundKept content.now) }
+/// The program that a program as it is written is.
+fn written_program(alloc: Global, program: &rust_ast::Program) -> Result<Source, NoMem>
+    ensures { IfOk result (IsFoundWritten program.now) }
 {
-    match read(alloc, content) {
+    match resolve(alloc, program) {
+        Ok(resolved) => resolved_program(alloc, &resolved),
+        Err(fault) => unresolved(fault),
+    }
+}
+
+/// The refusal of names.
+fn unresolved(fault: NameFault) -> Result<Source, NoMem>
+    ensures { IfOk result (IsRefusedAs fault) }
+{
+    match fault {
+        NameFault::Unknown(span) => Ok(Source::Refused(Refusal::Unknown(span))),
+        NameFault::Twice(first, second) => Ok(Source::Refused(Refusal::Twice(first, second))),
+        NameFault::Limit(which, count) => Ok(Source::Refused(Refusal::Limit(which, count))),
+        NameFault::Memory => Err(NoMem),
+    }
+}
+
+/// The program that a program with names resolved is.
+fn resolved_program(alloc: Global, resolved: &Resolved) -> Result<Source, NoMem>
+    requires few { Each (λ (f : resolution.Function). length f.variables ≤ 1000) resolved.now.functions }
+    requires differ { Differ (function_names resolved.now.functions) }
+    ensures { IfOk result (IsFoundResolved resolved.now) }
+{
+    match sums_of(alloc, resolved) {
         Ok(program) => Ok(Source::Read(program)),
-        Err(ReadFault::Syntax) => Ok(Source::Refused(Refusal::Later)),
-        Err(ReadFault::Memory) => Err(NoMem),
+        Err(SumsFault::Outside) => Ok(Source::Refused(Refusal::Later)),
+        Err(SumsFault::Memory) => Err(NoMem),
     }
 }

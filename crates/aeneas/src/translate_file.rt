@@ -1,7 +1,9 @@
 ghost use Rattle.std.specs.Prelude.{◌≡◌, ◌++◌, IfOk};
 ghost use Rattle.source_meaning.specs.Typing.{IsTyped};
 ghost use Rattle.aen_io.specs.Handed.{since};
+ghost use Rattle.text_meaning.specs.WellFormedTypes.{AreNames};
 ghost use Rattle.aeneas.specs.Reply.{TranslateReply};
+ghost use Rattle.aeneas.specs.Source.{function_names};
 ghost use Rattle.aeneas.specs.Translation.{IsTextOf};
 ghost use Rattle.aeneas.specs.Seen.{seen};
 
@@ -31,7 +33,8 @@ pub fn translate_file<F: Files>(alloc: Global, files: &mut F, file: &str) -> Res
 
 /// The text of a program's definitions.
 fn text_of(alloc: Global, program: &Program) -> Result<Text, NoMem>
-    requires { IsTyped program.now }
+    requires typed { IsTyped program.now }
+    requires names { AreNames (function_names program.now) }
     ensures { IfOk result (IsTextOf program.now) }
 {
     let defs = translate(alloc, program)?;

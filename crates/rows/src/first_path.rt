@@ -48,8 +48,8 @@ const ROWS: &[Row] = &[
     Row {
         content: b"fn f() -> u32 { g() }",
         words: TRANSLATE,
-        status: 30,
-        text: LATER,
+        status: 7,
+        text: "refused 7 unknown 16..17\n",
     },
     Row {
         content: b"fn \xff",
@@ -82,10 +82,10 @@ const ROWS: &[Row] = &[
         text: LATER,
     },
     Row {
-        content: b"fn f() -> u32 { 1 } fn f() -> u32 { 1 }",
+        content: b"fn f() {} fn f() {}",
         words: TRANSLATE,
-        status: 30,
-        text: LATER,
+        status: 7,
+        text: "refused 7 twice 3..4 13..14\n",
     },
 ];
 
@@ -129,14 +129,8 @@ fn bracketed(alloc: Global, brackets: u32) -> Result<String, AllocError> {
 #[test]
 fn the_limit_of_nesting(rt: HostRuntime) -> Result<(), NoMem> {
     let within = bracketed(rt.alloc(), 99)?;
-    let kept = answers(
-        rt.alloc(),
-        &GOOD,
-        within.as_bytes(),
-        TRANSLATE,
-        30,
-        LATER.as_bytes(),
-    )?;
+    let call = &["run", "a.rs", "f", "1"];
+    let kept = answers(rt.alloc(), &GOOD, within.as_bytes(), call, 0, b"value 1\n")?;
     assert!(rt; kept);
     let above = bracketed(rt.alloc(), 100)?;
     let line = b"refused 10 limit nesting 101\n";

@@ -8,6 +8,8 @@ mod first_path;
 #[cfg(test)]
 mod long_sums;
 #[cfg(test)]
+mod naming;
+#[cfg(test)]
 mod open_brackets;
 #[cfg(test)]
 mod primitives;

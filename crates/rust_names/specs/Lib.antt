@@ -12,4 +12,5 @@ pub mod Walks
 pub mod Hiding
 pub mod Uses
 pub mod Resolution
+pub mod Naming
 pub mod Answers

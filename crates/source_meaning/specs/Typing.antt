@@ -1,6 +1,6 @@
 -- A program's uses fit: variables are declared, calls have their callee's number of arguments,
--- numbers are in range, names differ (LANGUAGE.md, "Names").
-use Rattle.std.specs.Prelude.{◌≡◌, ℕ, ◌+◌, ◌<◌, ◌≤◌, ◌^◌, true, List, [], ◌∷◌, ◌++◌, length, map, slice_get, take, Some, Contains, pos}
+-- numbers are in range (LANGUAGE.md, "Sums").
+use Rattle.std.specs.Prelude.{◌≡◌, ℕ, ◌+◌, ◌<◌, ◌≤◌, ◌^◌, List, [], ◌∷◌, ◌++◌, length, slice_get, Some, pos}
 use Rattle.aen_base.specs.Numbers.{Number}
 use Rattle.aen_base.specs.Arithmetic.{number as number_of}
 use Rattle.aen_base.specs.declared.int_ty.IntTy.TheVariants.{U32}
@@ -8,8 +8,6 @@ use Rattle.aen_base.specs.declared.operators.BinOp.TheVariants.{Add}
 use Rattle.sums_ast.specs.Tree.{Expr, number, variable, binary, call, Exprs, no_exprs, more_exprs, exprs_list, bind, Stmts, no_stmts, more_stmts, Block, block, MaybeExpr, no_maybeexpr, some_maybeexpr}
 use Rattle.sums_ast.specs.declared.function.Function.{Function}
 use Rattle.sums_ast.specs.declared.function.Program.{Program}
-use Rattle.source_meaning.specs.Words.{is_name}
-use Rattle.source_meaning.specs.Scope.{AreDistinct}
 
 -- a number of type u32
 pub record IsU32 (n : Number) : Type 0 where
@@ -44,12 +42,9 @@ IsTypedBody earlier total count (more_stmts (bind s k e) rest) last = (k ≡ cou
 abbrev pub IsTypedBlock : List Function → ℕ → ℕ → Block → Type 0
 IsTypedBlock earlier total count (block s stmts last) = IsTypedBody earlier total count stmts last
 
--- its name is a name and new, its parameters' names differ, and its body fits
+-- its parameters are its first variables, and its body fits
 pub record IsTypedFunction (earlier : List Function) (f : Function) : Type 0 where
-  pub named : is_name f.name ≡ true
-  pub new : Contains (map (λ (g : Function). g.name) earlier) f.name → ⊥
   pub within : f.parameters ≤ length f.variables
-  pub differ : AreDistinct (take f.parameters f.variables)
   pub body : IsTypedBlock earlier (length f.variables) f.parameters f.body
 
 abbrev pub AreTyped : List Function → List Function → Type 0

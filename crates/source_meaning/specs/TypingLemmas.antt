@@ -1,4 +1,4 @@
--- What typing says of the functions and bodies of a program (LANGUAGE.md, "Names").
+-- What typing says of the functions and bodies of a program (LANGUAGE.md, "Sums").
 use Rattle.std.proofs.Common.{◌≡◌, ℕ, zero, suc, ◌+◌, ◌≤◌, List, [], ◌∷◌, ◌++◌, ap, sym, subst, ◌∙◌, arith, append_assoc}
 use Rattle.std.proofs.lemmas.Option.{same_Some}
 use Rattle.std.specs.Prelude.{slice_get, Some}

@@ -8,7 +8,6 @@ pub mod Meaning
 pub mod Items
 pub mod Steps
 pub mod Statements
-pub mod Names
-pub mod Distinct
+pub mod Kinds
 pub mod WellFormed
 pub mod Scoping

@@ -20,7 +20,7 @@ use Rattle.sums_ast.specs.declared.function.Program.{Program}
 use Rattle.source_meaning.specs.Typing.{IsU32, IsTypedExpr, AreTypedExprs, IsTypedBody, IsTypedBlock, IsTypedFunction, AreTyped, IsTyped}
 use Rattle.text_meaning.specs.Lists.{Each}
 use Rattle.text_meaning.specs.Ranges.{IsSmall, IsInRange}
-use Rattle.text_meaning.specs.WellFormedTypes.{IsType}
+use Rattle.text_meaning.specs.WellFormedTypes.{IsType, AreNames}
 use Rattle.text_meaning.specs.WellFormedTerms.{IsTerm, AreTerms, IsComp, parameters_count}
 use Rattle.text_meaning.specs.WellFormedCode.{IsCode}
 use Rattle.text_meaning.specs.WellFormed.{IsWellFormed, IsDefinition}
@@ -32,7 +32,7 @@ use Rattle.translate.specs.Adds.{IsNumbered, AreNumbered}
 use Rattle.translate.proofs.Items.{each_push}
 use Rattle.source_meaning.specs.PlaceLemmas.{get_left_some}
 use Rattle.translate.proofs.Meaning.{definitions_get}
-use Rattle.translate.proofs.Distinct.{names_are, names_differ, kinds_differ, in_order}
+use Rattle.translate.proofs.Kinds.{kinds_differ, in_order}
 
 -- an atom whose variable has a number, or whose number is in range
 abbrev IsAtom : Atom → Type 0
@@ -183,11 +183,11 @@ definitions_are defs earlier (f ∷ fs) called_ k (typed, rest) (sf, small) = (
       (λ j g e. called_ j g (ap (λ l. slice_get l j) (sym (append_assoc earlier (f ∷ []) fs)) ∙ e)) (k + 1) rest small,
 )
 
-pub well_formed : (p : Program) → IsTyped p → AreNumbered p.functions → IsWellFormed (translation p)
-well_formed p typed small = record {
+pub well_formed : (p : Program) → IsTyped p → AreNames (map (λ (f : Function). f.name) p.functions) → AreNumbered p.functions → IsWellFormed (translation p)
+well_formed p typed names small = record {
   types_named = (tt, tt);
   types = tt;
-  functions_named = (names_are [] p.functions typed, names_differ [] p.functions typed);
+  functions_named = names;
   order = in_order 0 p.functions (length (map (λ (f : Function). f.name) p.functions))
       (let len = length-map p.functions (λ (f : Function). f.name) in omega arith);
   kinds = kinds_differ 0 p.functions;

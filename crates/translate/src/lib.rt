@@ -8,10 +8,12 @@ mod function;
 mod program;
 mod spine;
 
-ghost use Rattle.std.specs.Prelude.{IfOk};
+ghost use Rattle.std.specs.Prelude.{IfOk, map};
+ghost use Rattle.sums_ast.specs.declared.function.Function.{Function};
 ghost use Rattle.source_meaning.specs.Typing.{IsTyped};
 ghost use Rattle.text_meaning.specs.Scoped.{IsScoped};
 ghost use Rattle.text_meaning.specs.WellFormed.{IsWellFormed};
+ghost use Rattle.text_meaning.specs.WellFormedTypes.{AreNames};
 ghost use Rattle.translate.specs.Lists.{Lists};
 ghost use Rattle.translate.specs.Means.{Means};
 
@@ -23,7 +25,8 @@ use sums_ast::Program;
 
 /// The definitions of a program. The only error is want of memory.
 pub fn translate(alloc: Global, program: &Program) -> Result<Defs, NoMem>
-    requires { IsTyped program.now }
+    requires typed { IsTyped program.now }
+    requires names { AreNames (map (λ (f : Function). f.name) program.now.functions) }
     ensures lists { IfOk result (Lists program.now) }
     ensures means { IfOk result (Means program.now) }
     ensures well_formed { IfOk result IsWellFormed }

@@ -1,10 +1,12 @@
-use Rattle.std.proofs.Common.{◌≡◌, sym, subst, Result, Ok, Err}
+use Rattle.std.proofs.Common.{◌≡◌, sym, subst, map, Result, Ok, Err}
 use Rattle.std.specs.Prelude.{IfOk}
 use Rattle.aen_base.specs.declared.memory.NoMem.{NoMem}
+use Rattle.sums_ast.specs.declared.function.Function.{Function}
 use Rattle.sums_ast.specs.declared.function.Program.{Program}
 use Rattle.source_meaning.specs.Typing.{IsTyped}
 use Rattle.text_meaning.specs.Scoped.{IsScoped}
 use Rattle.text_meaning.specs.WellFormed.{IsWellFormed}
+use Rattle.text_meaning.specs.WellFormedTypes.{AreNames}
 use Rattle.std.proofs.lemmas.Result.{IfOk-weaker}
 use Rattle.pure_ast.specs.declared.def.Defs.{Defs}
 use Rattle.translate.specs.Lists.{Lists}
@@ -24,17 +26,17 @@ returns-clause-lists c =
 pub returns-clause-means : goal.returns-clause-means
 returns-clause-means c =
     let p = c.args.program.now in
-    IfOk-weaker c.definitions.result (λ (d : Defs). d ≡ translation p) (Means p) (λ d is. subst (Means p) (sym is) (means p c.requires)) c.definitions.ensures.same
+    IfOk-weaker c.definitions.result (λ (d : Defs). d ≡ translation p) (Means p) (λ d is. subst (Means p) (sym is) (means p c.requires.typed)) c.definitions.ensures.same
 
-formed : (r : Result Defs NoMem) (p : Program) → IsTyped p → IfOk r (λ d. d ≡ translation p) → IfOk r (λ d. AreNumbered p.functions) → IfOk r IsWellFormed
-formed (Ok d) p typed is small = subst IsWellFormed (sym is) (well_formed p typed small)
-formed (Err e) p typed is small = tt
+formed : (r : Result Defs NoMem) (p : Program) → IsTyped p → AreNames (map (λ (f : Function). f.name) p.functions) → IfOk r (λ d. d ≡ translation p) → IfOk r (λ d. AreNumbered p.functions) → IfOk r IsWellFormed
+formed (Ok d) p typed names is small = subst IsWellFormed (sym is) (well_formed p typed names small)
+formed (Err e) p typed names is small = tt
 
 pub returns-clause-well_formed : goal.returns-clause-well_formed
 returns-clause-well_formed c =
-    formed c.definitions.result c.args.program.now c.requires c.definitions.ensures.same c.definitions.ensures.small
+    formed c.definitions.result c.args.program.now c.requires.typed c.requires.names c.definitions.ensures.same c.definitions.ensures.small
 
 pub returns-clause-scoped : goal.returns-clause-scoped
 returns-clause-scoped c =
     let p = c.args.program.now in
-    IfOk-weaker c.definitions.result (λ (d : Defs). d ≡ translation p) IsScoped (λ d is. subst IsScoped (sym is) (scoped p c.requires)) c.definitions.ensures.same
+    IfOk-weaker c.definitions.result (λ (d : Defs). d ≡ translation p) IsScoped (λ d is. subst IsScoped (sym is) (scoped p c.requires.typed)) c.definitions.ensures.same

@@ -1,0 +1,3 @@
+pub mod Gets
+pub mod Names
+pub mod Sums
