@@ -5,7 +5,7 @@ use Rattle.core_ty.specs.declared.decl.Variant.{Variant}
 use Rattle.rust_ast.specs.declared.resolution.Declared.{Declared}
 use Rattle.type_rules.specs.Declarations.{fields_written, variants_written}
 use Rattle.type_rules.specs.Faults.{Fault, and_then}
-use Rattle.type_rules.specs.WrittenTypes.{Standing, plain, written}
+use Rattle.type_rules.specs.WrittenTypes.{plain, written}
 use Rattle.core_ty.specs.Types as t
 use Rattle.rust_ast.specs.Written as w
 
@@ -20,13 +20,14 @@ module _ {A B S : Type 0} (step : A → S → Result (B × S) Fault) where
   walk_onto done [] st = Ok (done, st)
   walk_onto done (x ∷ xs) st = and_then (step x st) (λ y. walk_onto (done ++ y.0 ∷ []) xs y.1)
 
--- types as a tree has them, with the next new region
-abbrev pub in_tys : List t.Ty × ℕ → t.Tys × ℕ
-in_tys r = (t.tys r.0, r.1)
-
+-- an answer in another form
 abbrev pub on_ok : {A B : Type 0} → (A → B) → Result A Fault → Result B Fault
 on_ok f (Ok x) = Ok (f x)
 on_ok f (Err x) = Err x
+
+-- types as a tree has them, with the next new region
+abbrev pub in_tys : List t.Ty × ℕ → t.Tys × ℕ
+in_tys r = (t.tys r.0, r.1)
 
 abbrev pub field_written : List ℕ → List ℕ × w.Written → Result (List ℕ × t.Ty) Fault
 field_written ns f = and_then (written ns plain true f.1 0) (λ r. Ok (f.0, r.0))

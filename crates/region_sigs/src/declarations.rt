@@ -113,8 +113,8 @@ fn declarations(
     ensures { Gives (spec.declarations (spec.parameter_numbers types.now) these.now) result }
 {
     let mut done = List::new(alloc);
-    for declared in these {
-        let decl = declaration(alloc, types, declared)?;
+    for i in 0..these.len() {
+        let decl = declaration(alloc, types, &these[i])?;
         done.push(decl)?;
     }
     Ok(done)

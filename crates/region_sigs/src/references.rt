@@ -5,7 +5,7 @@ ghost use Rattle.std.specs.List.{list_all};
 ghost use Rattle.core_ty.specs.declared.places.Position as places;
 ghost use Rattle.type_rules.specs.Signatures as spec;
 
-use aen_base::{List, NoMem};
+use aen_base::{List, NoMem, at};
 use core_ty::{Position, Ty, positions};
 use std::alloc::Global;
 
@@ -36,10 +36,10 @@ fn all_have(region: u32, found: &[Position]) -> bool
 fn common_region(found: &[Position]) -> Option<u32>
     ensures { result ≡ spec.one_region found.now }
 {
-    match found {
-        [] => None,
-        [first, rest @ ..] => {
-            if all_have(first.region.0, rest) {
+    match at(found, 0) {
+        None => None,
+        Some(first) => {
+            if all_have(first.region.0, found) {
                 Some(first.region.0)
             } else {
                 None
