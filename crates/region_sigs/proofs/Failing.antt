@@ -12,6 +12,3 @@ passes o u (code.NestedBorrow p) h k = k _ h
 passes o u (code.Arity p) h k = k _ h
 passes o u (code.Limit w n) h k = (k _ h.0, h.1)
 passes o u code.Memory h k = tt
-
-pub then_fails : {A B : Type 0} (o : Result A Fault) (f : A → Result B Fault) (e : RegionFault) → Fails o e → Fails (and_then o f) e
-then_fails o f e h = passes o (and_then o f) e h (λ x q. ap (λ z. and_then z f) q)
