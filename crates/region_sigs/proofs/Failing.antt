@@ -1,10 +1,10 @@
 -- A fault of a part is the fault of the whole.
-use Rattle.std.proofs.Common.{◌≡◌, ap}
+use Rattle.std.proofs.Common.{◌≡◌}
 use Rattle.std.specs.Prelude.{Result, Err}
 use Rattle.region_sigs.specs.Gives.{Fails}
 use Rattle.region_sigs.specs.declared.fault.RegionFault.{RegionFault}
 use Rattle.region_sigs.specs.declared.fault.RegionFault.TheVariants as code
-use Rattle.type_rules.specs.Faults.{Fault, and_then}
+use Rattle.type_rules.specs.Faults.{Fault}
 
 pub passes : {A B : Type 0} (o : Result A Fault) (u : Result B Fault) (e : RegionFault) → Fails o e → ((x : Fault) → o ≡ Err x → u ≡ Err x) → Fails u e
 passes o u (code.NoRegion p) h k = k _ h
