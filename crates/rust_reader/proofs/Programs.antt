@@ -1,5 +1,5 @@
 -- What lexemes are read as a program comes to.
-use Rattle.std.proofs.Common.{◌≡◌, refl, sym, ap, ◌∙◌, subst, inl, inr, List, [], ◌∷◌, ◌++◌, map, Option, Some, None}
+use Rattle.std.proofs.Common.{◌≡◌, refl, sym, ap, ◌∙◌, subst, inl, inr, ℕ, List, [], ◌∷◌, ◌++◌, map, Option, Some, None}
 use Rattle.std.proofs.lemmas.List.{append-nil}
 use Rattle.aen_base.specs.declared.span.Span.{Span}
 use Rattle.table_reader.specs.declared.symbol.Symbol.{Symbol}
@@ -8,6 +8,7 @@ use Rattle.table_reader.specs.Derivations as D
 use Rattle.table_reader.specs.Derivations.{IsOneOf}
 use Rattle.table_reader.specs.Reading as R
 use Rattle.table_reader.specs.Reading.{Made}
+use Rattle.rust_lex.specs.declared.token.Token.{Token}
 use Rattle.source_grammar.specs.declared.lexeme.Lexeme.{Lexeme}
 use Rattle.source_grammar.specs.declared.terminal.Terminal.{Terminal}
 use Rattle.source_grammar.specs.declared.part.Part.{Part}
@@ -77,3 +78,10 @@ pub found : (ls : List Lexeme) (bad : Option Span) (p : Program) (value : Value)
 found ls bad p value h is none =
     let e : p ≡ record { items = h.carried.value } = is h.carried h.holds in
     (none, derived ls h.carried h.reads, (h.carried, (h.reads, e)), λ q r. other_is ls p q h.carried h.only e r)
+
+-- it is the program of tokens that are these lexemes, without excluded words and within the limits
+pub kept : (ts : List Token) (ls all : List Lexeme) (bad : Option Span) (p : Program) → ls ≡ all → syntax.first_excluded ts ≡ None → syntax.KeepsLimits ls →
+    (bad ≡ None) × syntax.IsProgram ls × Reads ls p × ((q : Program) → Reads ls q → q ≡ p) →
+    syntax.IsKept ts all bad × Reads all p × ((q : Program) → Reads all q → q ≡ p)
+kept ts ls all bad p e words limits (none, is, reads, only) =
+    subst (λ (ms : List Lexeme). syntax.IsKept ts ms bad × Reads ms p × ((q : Program) → Reads ms q → q ≡ p)) e ((words, limits, none, is), reads, only)

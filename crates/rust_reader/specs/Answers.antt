@@ -1,4 +1,4 @@
--- What the tokens of a text come to (docs/LANGUAGE.md, "Grammar", "Limits", "Words of the command line").
+-- What the tokens of a text come to, as a source or as a function's name (docs/LANGUAGE.md, "Grammar", "Limits").
 use Rattle.std.specs.Prelude.{◌≡◌, ℕ, List, [], ◌∷◌, Option, Some, None, MatchOption, Result, Ok, Err, length}
 use Rattle.aen_base.specs.declared.span.Span.{Span}
 use Rattle.table_reader.specs.declared.take.Take.TheVariants as K
@@ -29,7 +29,7 @@ IsReading text ts bad (Err (F.Limit which n)) = IsCause ts (lexemes text None ts
 IsReading text ts bad (Err (F.Syntax span)) = IsCause ts (lexemes text None ts) bad (length text) (R.Syntax span)
 IsReading text ts bad (Err F.Memory) = Unit {0}
 
--- types up to `>`
+-- lexemes are read as types up to `>`
 abbrev pub ReadsList : List Lexeme → Carrier (N.List Of.TypesInAngles) → Type 0
 ReadsList ls v = table.Reads takes Carrier made (N.List Of.TypesInAngles) ls [] v
 
@@ -39,15 +39,24 @@ pub data ReadsTypes : List Lexeme → List t.Written → Type 0 where
   given : (colons less : Lexeme) (rest : List Lexeme) (v : Carrier (N.List Of.TypesInAngles)) → takes T.Colons colons ≡ K.Whole → takes T.Less less ≡ K.Whole →
       ReadsList rest v → ReadsTypes (colons ∷ (less ∷ rest)) v.value
 
--- lexemes are a function's name, perhaps with types
+-- lexemes are a function's name as a command takes it: an identifier, perhaps with types
 pub data ReadsCallName : List Lexeme → List ℕ → List t.Written → Type 0 where
   by : (name : Lexeme) (rest : List Lexeme) (tys : List t.Written) → takes T.Identifier name ≡ K.Whole → ReadsTypes rest tys → ReadsCallName (name ∷ rest) (name_in name.content) tys
 
--- the types after a name, or that lexemes are something else
-abbrev pub AreTypes : List Lexeme → Option (List t.Written) → Type 0
-AreTypes ls o = MatchOption o ((tys : List t.Written) → ReadsTypes ls tys → ⊥) (λ tys. ReadsTypes ls tys)
+-- the types up to `>`, and no others, or that lexemes are something else
+abbrev pub AreListed : List Lexeme → Option (List t.Written) → Type 0
+AreListed ls o =
+    MatchOption o ((v : Carrier (N.List Of.TypesInAngles)) → ReadsList ls v → ⊥)
+    (λ tys. (v : Carrier (N.List Of.TypesInAngles)) × (ReadsList ls v × (tys ≡ v.value) × ((other : Carrier (N.List Of.TypesInAngles)) → ReadsList ls other → other ≡ v)))
 
--- of a text without a lexical fault: its name and types, or that it is none
+-- the types after a name, and no others, or that lexemes are something else
+abbrev pub AreTypes : List Lexeme → Option (List t.Written) → Type 0
+AreTypes ls o =
+    MatchOption o ((tys : List t.Written) → ReadsTypes ls tys → ⊥) (λ tys. ReadsTypes ls tys × ((others : List t.Written) → ReadsTypes ls others → others ≡ tys))
+
+-- of a text without a lexical fault: the name and the types that its lexemes are read as, and no others; or that there
+-- is a fault, or the lexemes are no name
 abbrev pub IsCallName : List Lexeme → Option Span → Option (List ℕ × List t.Written) → Type 0
 IsCallName ls bad o =
-    MatchOption o (bad ≡ None → (name : List ℕ) (tys : List t.Written) → ReadsCallName ls name tys → ⊥) (λ (name, tys). (bad ≡ None) × ReadsCallName ls name tys)
+    MatchOption o (bad ≡ None → (name : List ℕ) (tys : List t.Written) → ReadsCallName ls name tys → ⊥)
+    (λ (name, tys). (bad ≡ None) × ReadsCallName ls name tys × ((other : List ℕ) (others : List t.Written) → ReadsCallName ls other others → (other ≡ name) × (others ≡ tys)))
