@@ -1,5 +1,5 @@
 -- What the tokens of a text come to, as a source or as a function's name (docs/LANGUAGE.md, "Grammar", "Limits").
-use Rattle.std.specs.Prelude.{◌≡◌, ℕ, List, [], ◌∷◌, Option, Some, None, MatchOption, Result, Ok, Err, length}
+use Rattle.std.specs.Prelude.{◌≡◌, ℕ, List, [], ◌∷◌, Option, Some, None, MatchOption, Result, Ok, Err, MatchResult, length}
 use Rattle.aen_base.specs.declared.span.Span.{Span}
 use Rattle.table_reader.specs.declared.take.Take.TheVariants as K
 use Rattle.table_reader.specs.Reading as table
@@ -10,7 +10,7 @@ use Rattle.source_grammar.specs.declared.part.Listed.TheVariants as Of
 use Rattle.source_grammar.specs.declared.terminal.Terminal.TheVariants as T
 use Rattle.source_grammar.specs.Lexemes.{takes}
 use Rattle.source_syntax.specs.declared.refusal.Refusal.TheVariants as R
-use Rattle.source_syntax.specs.Refusals.{IsCause, IsKept}
+use Rattle.source_syntax.specs.Refusals.{IsProgram, IsSyntaxFault, IsCause, IsKept}
 use Rattle.source_syntax.specs.Spelled.{lexemes}
 use Rattle.source_ways.specs.Carriers.{Carrier}
 use Rattle.source_ways.specs.Reading.{Reads, made}
@@ -20,8 +20,14 @@ use Rattle.rust_ast.specs.SourceTypes as t
 use Rattle.rust_reader.specs.declared.fault.ReadFault.{ReadFault}
 use Rattle.rust_reader.specs.declared.fault.ReadFault.TheVariants as F
 
--- what the tokens of a text come to, up to a lexical fault: the program that its lexemes are read as, and no other, which
--- is refused for nothing; or the first cause why it is refused. Want of memory alone may come at any text
+-- lexemes up to a lexical fault are read as this program, and as no other; or this is where they are none, in a text of
+-- so many bytes
+abbrev pub IsRead : List Lexeme → Option Span → ℕ → Result Program Span → Type 0
+IsRead ls bad end r =
+    MatchResult r (λ p. (bad ≡ None) × IsProgram ls × Reads ls p × ((q : Program) → Reads ls q → q ≡ p)) (λ span. IsSyntaxFault ls bad end span)
+
+-- what the tokens of a text come to, up to a lexical fault: the one program that its lexemes are read as, where there is
+-- no cause to refuse it; or the first cause. Want of memory alone may come at any text
 abbrev pub IsReading : List ℕ → List Token → Option Span → Result Program ReadFault → Type 0
 IsReading text ts bad (Ok p) = IsKept ts (lexemes text None ts) bad × Reads (lexemes text None ts) p × ((q : Program) → Reads (lexemes text None ts) q → q ≡ p)
 IsReading text ts bad (Err (F.Unsupported span)) = IsCause ts (lexemes text None ts) bad (length text) (R.Unsupported span)

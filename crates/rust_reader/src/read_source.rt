@@ -12,7 +12,6 @@ use std::alloc::Global;
 /// The program that the tokens of a text are: Ok exactly where they are one that keeps the limits on
 /// nesting, depth and `else`, without excluded words and without a lexical fault; else the first cause
 /// in this order: an excluded word, a limit, the grammar.
-#[tactic(auto, using(crate::proofs::Programs::kept))]
 pub fn read(alloc: Global, text: &str, tokens: &Tokens) -> Result<Program, ReadFault>
     requires size { length text.now < 2 ^ 32 }
     requires slices { All (IsTokenOf text.now) tokens.now.list }
