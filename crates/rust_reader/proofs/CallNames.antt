@@ -1,5 +1,5 @@
 -- Lexemes that are a function's name with its types, and lexemes that are none.
-use Rattle.std.proofs.Common.{◌≡◌, ◌↔◌, refl, IsTrue, Bool, true, false, ap, sym, subst, ◌∙◌, ◌-◌, ℕ, suc, ◌≤◌, ◌<◌, Option, Some, None, List, [], ◌∷◌, length, get_or, take, drop, arith, Result, Ok, Err, IfOk, MatchOption}
+use Rattle.std.proofs.Common.{◌≡◌, ◌↔◌, refl, IsTrue, Bool, true, false, ap, sym, subst, ◌∙◌, ◌-◌, ℕ, suc, ◌≤◌, ◌<◌, Option, Some, None, List, [], ◌∷◌, length, get_or, take, drop, arith, Result, Ok, Err, IfOk}
 use Rattle.std.proofs.Math.Seq.{take-length}
 use Rattle.aen_base.specs.declared.memory.NoMem.{NoMem}
 use Rattle.aen_base.specs.declared.span.Span.{Span}

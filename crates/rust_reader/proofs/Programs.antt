@@ -1,5 +1,5 @@
 -- What lexemes are read as a program comes to.
-use Rattle.std.proofs.Common.{◌≡◌, refl, sym, ap, ◌∙◌, subst, inl, inr, ℕ, List, [], ◌∷◌, ◌++◌, map, Option, Some, None, MatchOption, Result, Ok, MatchResult}
+use Rattle.std.proofs.Common.{◌≡◌, sym, ap, ◌∙◌, subst, inl, inr, ℕ, List, [], ◌∷◌, ◌++◌, map, Option, Some, None, MatchOption, Result, Ok, MatchResult}
 use Rattle.std.proofs.lemmas.List.{append-nil}
 use Rattle.aen_base.specs.declared.limits.Which.{Which}
 use Rattle.aen_base.specs.declared.span.Span.{Span}

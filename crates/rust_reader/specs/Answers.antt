@@ -1,5 +1,5 @@
 -- What the tokens of a text come to, as a source or as a function's name (docs/LANGUAGE.md, "Grammar", "Limits").
-use Rattle.std.specs.Prelude.{◌≡◌, ℕ, List, [], ◌∷◌, Option, Some, None, MatchOption, Result, Ok, Err, MatchResult, length}
+use Rattle.std.specs.Prelude.{◌≡◌, ℕ, List, [], ◌∷◌, Option, None, MatchOption, Result, Ok, Err, MatchResult, length}
 use Rattle.aen_base.specs.declared.span.Span.{Span}
 use Rattle.table_reader.specs.declared.take.Take.TheVariants as K
 use Rattle.table_reader.specs.Reading as table
