@@ -14,8 +14,14 @@ mod open_brackets;
 #[cfg(test)]
 mod primitives;
 #[cfg(test)]
+mod reading;
+#[cfg(test)]
 mod running;
 #[cfg(test)]
+mod source_limits;
+#[cfg(test)]
 mod table;
+#[cfg(test)]
+mod unknown_names;
 #[cfg(test)]
 mod worked_text;

@@ -74,3 +74,17 @@ pub fn answers(
     let answer = aeneas(alloc, &words, &mut files, &mut sink);
     Ok(answer == status && sink.bytes() == text)
 }
+
+/// A source that is refused: the status and the line.
+pub type Refused = (&'static [u8], u8, &'static str);
+
+/// Whether `translate` refuses each source so.
+pub fn refuses(alloc: Global, sources: &[Refused]) -> Result<bool, NoMem> {
+    for (content, status, line) in sources {
+        let words = &["translate", "a.rs"];
+        if !answers(alloc, &GOOD, content, words, *status, line.as_bytes())? {
+            return Ok(false);
+        }
+    }
+    Ok(true)
+}

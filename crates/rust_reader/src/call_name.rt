@@ -1,4 +1,4 @@
-ghost use Rattle.std.specs.Prelude.{◌≡◌, ◌∷◌, ◌↔◌, IsTrue, List, ◌^◌, ◌<◌, length, None, All, IfOk, MatchOption};
+ghost use Rattle.std.specs.Prelude.{◌≡◌, ◌∷◌, ◌↔◌, IsTrue, List, ◌^◌, ◌<◌, length, None, All, IfOk};
 ghost use Rattle.table_reader.specs.declared.take.Take.TheVariants as K;
 ghost use Rattle.source_grammar.specs.Lexemes.{takes};
 ghost use Rattle.source_grammar.specs.declared.part.Part.TheVariants as N;
@@ -24,7 +24,8 @@ use std::alloc::Global;
 use table_reader::{Grammar, Take};
 
 /// The name and the types of a function's name on the command line; None exactly where the text has a
-/// lexical fault or is not a name, or a name with `::<`, types and `>`. The only error is want of memory.
+/// lexical fault or its tokens are neither an identifier nor an identifier, `::<`, types and `>`. The
+/// only error is want of memory.
 #[tactic(auto, using(crate::proofs::CallNames::of_text))]
 pub fn read_call_name(
     alloc: Global,
@@ -53,7 +54,7 @@ fn call_name(alloc: Global, lexemes: &[Lexeme]) -> Result<Option<(Name, List<Wri
 }
 
 /// The same of a first lexeme and the others.
-#[tactic(auto, using(crate::proofs::CallNames::no_identifier, crate::proofs::CallNames::no_types, crate::proofs::CallNames::is_named))]
+#[tactic(auto, using(crate::proofs::CallNames::no_types, crate::proofs::CallNames::is_named))]
 fn named(
     alloc: Global,
     first: &Lexeme,
@@ -98,7 +99,6 @@ fn types_after_colons(
 }
 
 /// The same of two lexemes and the others.
-#[tactic(auto, using(crate::proofs::CallNames::no_colons, crate::proofs::CallNames::no_less, crate::proofs::CallNames::in_angles))]
 fn types_in_angles(
     alloc: Global,
     colons: &Lexeme,
@@ -119,7 +119,7 @@ fn types_in_angles(
 /// Types up to `>`; None exactly where lexemes are something else.
 #[tactic(auto, using(crate::proofs::CallNames::holds_types, crate::proofs::CallNames::listed))]
 fn types_up_to_end(alloc: Global, lexemes: &[Lexeme]) -> Result<Option<List<Written>>, NoMem>
-    ensures { IfOk result (λ o. MatchOption o ((v : Carrier (N.List Of.TypesInAngles)) → spec.ReadsList lexemes.now v → ⊥) (λ tys. (v : Carrier (N.List Of.TypesInAngles)) × (spec.ReadsList lexemes.now v × (tys ≡ v.value)))) }
+    ensures { IfOk result (spec.AreListed lexemes.now) }
 {
     match table_reader::read::<SourceReader>(alloc, Part::List(Listed::TypesInAngles), lexemes)? {
         Ok(value) => Ok(Some(types_of(value))),

@@ -1,14 +1,12 @@
 //! The program that lexemes are read as.
 
-ghost use Rattle.std.specs.Prelude.{◌≡◌, None, IfOk, MatchResult};
+ghost use Rattle.std.specs.Prelude.{◌≡◌, IfOk};
 ghost use Rattle.source_grammar.specs.declared.part.Part.TheVariants as N;
 ghost use Rattle.source_ways.specs.Carriers.{Carrier};
 ghost use Rattle.source_values.specs.Held.{held};
 ghost use Rattle.source_values.specs.Stacked.{Is};
 ghost use Rattle.source_values.specs.declared.value.Value.TheVariants as V;
-ghost use Rattle.source_syntax.specs.Refusals as syntax;
-ghost use Rattle.source_ways.specs.Reading.{Reads};
-ghost use Rattle.rust_ast.specs.declared.program.Program.{Program};
+ghost use Rattle.rust_reader.specs.Answers as spec;
 
 use aen_base::{NoMem, Span};
 use rust_ast::program::Program;
@@ -20,14 +18,14 @@ use std::alloc::Global;
 
 /// The program that the lexemes before a lexical fault are, in a text of so many bytes, or where they
 /// are none. The only error is want of memory.
-#[tactic(auto, using(crate::proofs::Programs::at_lexical, crate::proofs::Programs::holds_items, crate::proofs::Programs::found))]
+#[tactic(auto, using(crate::proofs::Programs::at_lexical, crate::proofs::Programs::holds_items))]
 pub(crate) fn program_or_fault(
     alloc: Global,
     lexemes: &[Lexeme],
     bad: Option<Span>,
     end: u32,
 ) -> Result<Result<Program, Span>, NoMem>
-    ensures { IfOk result (λ r. MatchResult r (λ p. (bad ≡ None) × syntax.IsProgram lexemes.now × Reads lexemes.now p × ((q : Program) → Reads lexemes.now q → q ≡ p)) (λ span. syntax.IsSyntaxFault lexemes.now bad end span)) }
+    ensures { IfOk result (spec.IsRead lexemes.now bad end) }
 {
     match table_reader::read::<SourceReader>(alloc, Part::Program, lexemes)? {
         Err(place) => Ok(Err(fault_at(lexemes, place, bad, end))),
