@@ -1,52 +1,70 @@
 """What the reader of sources holds of each part: what `source_build.py` reads."""
 
-# A variant for each type that parts carry (specs/Carriers.antt), and that type in code.
-VARIANTS = """
-Items = List Item = FrontList<Item>
-Nothing = Unit {0} = ()
-Item = Item = Item
-Generics = Generics = Generics
-Idents = List Ident = FrontList<Ident>
-Param = Param = Param
-Params = List Param = FrontList<Param>
-MaybeWritten = Option t.Written = Option<Written>
-Fields = Fields = Fields
-Field = Field = (Span, Name, Written)
-NamedFields = List Field = FrontList<(Span, Name, Written)>
-Written = t.Written = Written
-Writtens = List t.Written = FrontList<Written>
-Variant = Variant = Variant
-Variants = List Variant = FrontList<Variant>
-Lifetime = t.Lifetime = Lifetime
-Truth = Bool = bool
-Block = s.Block = Block
-Body = Body = Body
-MaybeBody = Option Body = Option<Body>
-MaybeExpr = Option s.Expr = Option<Expr>
-Expr = s.Expr = Expr
-Exprs = List s.Expr = FrontList<Expr>
-Conditional = Conditional = Conditional
-Arms = List (p.Pat × s.Expr) = FrontList<(Pat, Expr)>
-ArmBody = ArmBody = ArmBody
-Operations = List Operation = FrontList<Operation>
-Casts = List (Span × IntTy) = FrontList<(Span, IntTy)>
-Borrowed = Borrowed = Borrowed
-Ident = Ident = Ident
-Initial = Initial = (Span, Name, Expr)
-Initials = List Initial = FrontList<(Span, Name, Expr)>
-After = After = After
-Further = Further = Further
-InMem = InMem = InMem
-Calling = Calling = Calling
-Pat = p.Pat = Pat
-Pats = List p.Pat = FrontList<Pat>
-MaybePat = Option p.Pat = Option<Pat>
-FieldPat = p.FieldPat = FieldPat
-FieldPats = List p.FieldPat = FrontList<FieldPat>
-Given = Given = Given
-AfterName = AfterName = AfterName
-AfterMem = AfterMem = AfterMem
-"""
+# A variant for each type that parts carry (specs/Carriers.antt), and that type in code, by subject.
+VARIANTS = {
+    "items": """
+        Items = List Item = FrontList<Item>
+        Nothing = Unit {0} = ()
+        Item = Item = Item
+        Generics = Generics = Generics
+        Idents = List Ident = FrontList<Ident>
+        Param = Param = Param
+        Params = List Param = FrontList<Param>
+        Fields = Fields = Fields
+        Field = Field = (Span, Name, Written)
+        NamedFields = List Field = FrontList<(Span, Name, Written)>
+        Variant = Variant = Variant
+        Variants = List Variant = FrontList<Variant>
+        """,
+    "types": """
+        Written = t.Written = Written
+        Writtens = List t.Written = FrontList<Written>
+        MaybeWritten = Option t.Written = Option<Written>
+        Lifetime = t.Lifetime = Lifetime
+        Truth = Bool = bool
+        """,
+    "blocks": """
+        Block = s.Block = Block
+        Body = Body = Body
+        MaybeBody = Option Body = Option<Body>
+        Conditional = Conditional = Conditional
+        Arms = List (p.Pat × s.Expr) = FrontList<(Pat, Expr)>
+        ArmBody = ArmBody = ArmBody
+        """,
+    "expressions": """
+        Expr = s.Expr = Expr
+        Exprs = List s.Expr = FrontList<Expr>
+        MaybeExpr = Option s.Expr = Option<Expr>
+        Operations = List Operation = FrontList<Operation>
+        Casts = List (Span × IntTy) = FrontList<(Span, IntTy)>
+        Borrowed = Borrowed = Borrowed
+        Ident = Ident = Ident
+        Initial = Initial = (Span, Name, Expr)
+        Initials = List Initial = FrontList<(Span, Name, Expr)>
+        """,
+    "paths": """
+        After = After = After
+        Further = Further = Further
+        InMem = InMem = InMem
+        Calling = Calling = Calling
+        """,
+    "patterns": """
+        Pat = p.Pat = Pat
+        Pats = List p.Pat = FrontList<Pat>
+        MaybePat = Option p.Pat = Option<Pat>
+        FieldPat = p.FieldPat = FieldPat
+        FieldPats = List p.FieldPat = FrontList<FieldPat>
+        Given = Given = Given
+        AfterName = AfterName = AfterName
+        AfterMem = AfterMem = AfterMem
+        """,
+}
+
+# Parts whose productions stand beside those of their section.
+BESIDE = {
+    "generics": "Generics Lifetimes MoreLifetimes TypeParameters",
+    "fields": "StructBody Field TupleField Variant VariantBody",
+}
 
 # Where the types of code come from.
 IMPORTS = {

@@ -5,7 +5,7 @@ Reads source_build.desc.py, source_ways.desc.py and the grammar that this one na
 Written into source_values are
 
     src/value.rt, specs/Held.antt      what is held of each part
-    src/taking.rt                      how it is taken off the stack
+    src/taking.rt, src/taking/*.rt     how it is taken off the stack
     src/made.rt, src/made/*.rt         what productions build, one function for those that do the same
 
 and into source_builder
@@ -106,7 +106,11 @@ class Machine:
         self.grammar = Description(os.path.join(HERE, described["GRAMMAR"]))
         self.ways = source_ways.read_ways(described["WAYS"])
         self.plain, self.modules, self.imports = given["PLAIN"], given["WAYS_IN"], given["IMPORTS"]
-        self.variants = [tuple(x.strip() for x in line.split(" = ")) for line in given["VARIANTS"].strip().split("\n")]
+        self.taking = {subject: [tuple(x.strip() for x in line.split(" = ")) for line in lines.strip().split("\n")]
+                       for subject, lines in given["VARIANTS"].items()}
+        self.variants = [v for variants in self.taking.values() for v in variants]
+        self.subject_of = {f"take_{snake(name)}": subject for subject, variants in self.taking.items() for name, _, _ in variants}
+        self.beside = {part: place for place, parts in given["BESIDE"].items() for part in parts.split()}
         self.variant_of = {carried: name for name, carried, _ in self.variants}
         self.code_of = {name: code for name, _, code in self.variants}
         self.read_carriers()
@@ -191,6 +195,13 @@ class Machine:
     def section(self, name):
         return snake(self.grammar.parts[name][2].split()[0])
 
+    def taken_in(self, taker):
+        return f"::{self.subject_of[taker]}" if taker in self.subject_of else ""
+
+    def place(self, name):
+        """Where the functions of a part's productions stand."""
+        return self.beside.get(name, self.section(name))
+
 
 def production(machine, name, values, place):
     shown = []
@@ -236,7 +247,7 @@ def snake_doc(name, values):
 def made_files(machine):
     files = {}
     for entry in machine.made.values():
-        files.setdefault(machine.section(entry[1]), []).append(entry)
+        files.setdefault(machine.place(entry[1]), []).append(entry)
     return files
 
 
@@ -258,7 +269,7 @@ TAKING = '''//! Values of symbols, taken off the stack. Written by tools/source_
 ghost use Rattle.std.specs.Prelude.{◌≡◌, ◌∷◌, reverse};
 ghost use Rattle.table_reader.specs.declared.item.Item.TheVariants as I;
 ghost use Rattle.source_values.specs.declared.value.Value.TheVariants as V;
-ghost use Rattle.source_values.specs.Stacked.{HasToken, HasMark, HasPart, Has, Is};
+ghost use Rattle.source_values.specs.Stacked.{HasToken, HasMark, HasPart, Is};
 
 '''
 
@@ -291,11 +302,11 @@ pub(crate) fn take_mark(values: &mut Stack) -> Span
 }
 
 /// Drops a value: in one place, since what drops each variant is long.
-fn discard(_value: Value) {}
+pub(crate) fn discard(_value: Value) {}
 
 /// Takes the value of a part off.
 #[tactic(auto, using(crate::proofs::Newest::popped))]
-fn take_part(values: &mut Stack) -> Value
+pub(crate) fn take_part(values: &mut Stack) -> Value
     requires { HasPart (reverse values.old) }
     ensures { reverse values.old ≡ I.Part result ∷ reverse values.new }
 {
@@ -309,17 +320,18 @@ fn take_part(values: &mut Stack) -> Value
 }
 '''
 
+TAKING_PARTS = '''ghost use Rattle.std.specs.Prelude.{◌≡◌, ◌∷◌, reverse};
+ghost use Rattle.table_reader.specs.declared.item.Item.TheVariants as I;
+ghost use Rattle.source_values.specs.declared.value.Value.TheVariants as V;
+ghost use Rattle.source_values.specs.Stacked.{Has};
 
-def write_taking(machine):
-    text = TAKERS
-    for name, _, code in machine.variants:
-        text += f'''
-/// Takes the value of a part off that is held as `{name}`.
-pub(crate) fn take_{snake(name)}(values: &mut Stack) -> Spanned<{code}>
-    requires {{ Has V.{name} (reverse values.old) }}
-    ensures {{ reverse values.old ≡ I.Part (V.{name} result) ∷ reverse values.new }}
-{{
-    match take_part(values) {{
+'''
+
+
+def only(name, taken):
+    """The value of this variant, where no other can be."""
+    return f'''{{
+    match {taken} {{
         Value::{name}(value) => value,
         other => {{
             discard(other);
@@ -328,24 +340,33 @@ pub(crate) fn take_{snake(name)}(values: &mut Stack) -> Spanned<{code}>
     }}
 }}
 '''
+
+
+def write_taking(machine):
+    text = TAKERS
     for name, doc in (("Items", "The items of a program"), ("Writtens", "The types of a list")):
         text += f'''
 /// {doc} that a value holds.
 pub fn held_{snake(name)}(value: Value) -> Spanned<{machine.code_of[name]}>
     requires {{ Is V.{name} value }}
     ensures {{ value ≡ V.{name} result }}
-{{
-    match value {{
-        Value::{name}(value) => value,
-        other => {{
-            discard(other);
-            unreachable!()
-        }}
-    }}
-}}
-'''
-    write(os.path.join(VALUES, "src", "taking.rt"), TAKING
+''' + only(name, "value")
+    subjects = "".join(f"pub(crate) mod {s};\n" for s in sorted(machine.taking))
+    head, uses = TAKING.split("\n\n", 1)
+    write(os.path.join(VALUES, "src", "taking.rt"), head + "\n\n" + subjects + "\n" + uses
           + machine.uses(text, ["use crate::value::{Stack, Value};"]) + text)
+    for subject, variants in machine.taking.items():
+        text = ""
+        for name, _, code in variants:
+            text += f'''
+/// Takes the value of a part off that is held as `{name}`.
+pub(crate) fn take_{snake(name)}(values: &mut Stack) -> Spanned<{code}>
+    requires {{ Has V.{name} (reverse values.old) }}
+    ensures {{ reverse values.old ≡ I.Part (V.{name} result) ∷ reverse values.new }}
+''' + only(name, "take_part(values)")
+        write(os.path.join(VALUES, "src", "taking", subject + ".rt"),
+              f"//! Values of parts of {subject}, taken off the stack. Written by tools/source_build.py.\n\n" + TAKING_PARTS
+              + machine.uses(text, ["use crate::taking::{discard, take_part};", "use crate::value::{Stack, Value};"]) + text)
 
 
 HELD = '''-- How the values of parts are held. Written by tools/source_build.py.
@@ -388,8 +409,8 @@ def write_made(machine):
         text = "\n".join(made_function(machine, e) for e in entries)
         more = ["use crate::value::{Stack, Value};"]
         takes = sorted(set(re.findall(r"\btake_\w+", text)))
-        if takes:
-            more.append(f"use crate::taking::{{{', '.join(takes)}}};")
+        for place in sorted(set(machine.taken_in(t) for t in takes)):
+            more.append(f"use crate::taking{place}::{{{', '.join(t for t in takes if machine.taken_in(t) == place)}}};")
         for module in sorted(set(machine.modules.values())):
             if f"{module}::" in text:
                 more.append(f"use source_ways::{module};")
@@ -534,8 +555,8 @@ def write_building(machine):
     for section, functions in found.items():
         text = "\n".join(function_code(machine, f) for f in functions)
         more = ["use source_values::{Stack, Value};"]
-        for made in sorted(set(machine.section(e[1]) for e in machine.made.values())):
-            names = sorted(set(e[0] for e in machine.made.values() if machine.section(e[1]) == made and re.search(rf"\b{e[0]}\(", text)))
+        for made in sorted(set(machine.place(e[1]) for e in machine.made.values())):
+            names = sorted(set(e[0] for e in machine.made.values() if machine.place(e[1]) == made and re.search(rf"\b{e[0]}\(", text)))
             if names:
                 more.append(f"use source_values::made::{made}::{{{', '.join(names)}}};")
         head = f"//! What builds {section} by their productions. Written by tools/source_build.py.\n\n" + MADE

@@ -2,6 +2,8 @@
 
 pub mod blocks;
 pub mod expressions;
+pub mod fields;
+pub mod generics;
 pub mod items;
 pub mod lists;
 pub mod paths;

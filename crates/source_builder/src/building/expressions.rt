@@ -16,7 +16,7 @@ use source_values::made::expressions::{
     leading_unary_1, leading_unary_2, leading_unary_3, leading_unary_4, more_assign_free_0,
     more_assign_free_1, more_casts_0, more_casts_1, more_or_free_1, operand_1, postfix_1,
 };
-use source_values::made::items::type_parameters_0;
+use source_values::made::generics::type_parameters_0;
 use source_values::{Stack, Value};
 use std::alloc::Global;
 

@@ -7,7 +7,8 @@ ghost use Rattle.source_values.specs.Stacked.{CanBuild, IsBuilt};
 use aen_base::NoMem;
 use source_grammar::Listed;
 use source_values::made::expressions::{after_open_0, after_open_1};
-use source_values::made::items::{type_parameters_1, variant_body_1};
+use source_values::made::fields::variant_body_1;
+use source_values::made::generics::type_parameters_1;
 use source_values::made::lists::{
     list_field_patterns_0, list_field_patterns_1, list_fields_0, list_fields_1, list_initials_0,
     list_initials_1, list_names_0, list_names_1, list_parameters_0, list_parameters_1,

@@ -4,10 +4,13 @@ ghost use Rattle.std.specs.Prelude.{◌≡◌, reverse, IfOk};
 ghost use Rattle.source_grammar.specs.declared.part.Part.TheVariants as N;
 ghost use Rattle.source_values.specs.Stacked.{CanBuild, IsBuilt};
 
-use crate::taking::{
-    take_arm_body, take_arms, take_block, take_body, take_conditional, take_expr, take_mark,
-    take_maybe_body, take_maybe_expr, take_maybe_written, take_pat, take_token,
+use crate::taking::blocks::{
+    take_arm_body, take_arms, take_block, take_body, take_conditional, take_maybe_body,
 };
+use crate::taking::expressions::{take_expr, take_maybe_expr};
+use crate::taking::patterns::take_pat;
+use crate::taking::types::take_maybe_written;
+use crate::taking::{take_mark, take_token};
 use crate::value::{Stack, Value};
 use aen_base::NoMem;
 use source_ways::blocks;

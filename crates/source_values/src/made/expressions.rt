@@ -6,10 +6,12 @@ ghost use Rattle.source_values.specs.Stacked.{CanBuild, IsBuilt};
 ghost use Rattle.source_grammar.specs.declared.part.Context.TheVariants as At;
 ghost use Rattle.source_grammar.specs.declared.part.Level.TheVariants as L;
 
-use crate::taking::{
-    take_after, take_borrowed, take_calling, take_casts, take_expr, take_exprs, take_ident,
-    take_idents, take_mark, take_maybe_expr, take_operations, take_token,
+use crate::taking::expressions::{
+    take_borrowed, take_casts, take_expr, take_exprs, take_ident, take_maybe_expr, take_operations,
 };
+use crate::taking::items::take_idents;
+use crate::taking::paths::{take_after, take_calling};
+use crate::taking::{take_mark, take_token};
 use crate::value::{Stack, Value};
 use aen_base::NoMem;
 use rust_ast::source::{Expr, ExprNode};

@@ -4,11 +4,13 @@ ghost use Rattle.std.specs.Prelude.{◌≡◌, reverse, IfOk};
 ghost use Rattle.source_grammar.specs.declared.part.Part.TheVariants as N;
 ghost use Rattle.source_values.specs.Stacked.{CanBuild, IsBuilt};
 
-use crate::taking::{
-    take_block, take_fields, take_generics, take_idents, take_item, take_items, take_mark,
-    take_maybe_written, take_named_fields, take_nothing, take_params, take_token, take_variants,
-    take_written, take_writtens,
+use crate::taking::blocks::take_block;
+use crate::taking::items::{
+    take_fields, take_generics, take_idents, take_item, take_items, take_nothing, take_params,
+    take_variants,
 };
+use crate::taking::types::{take_maybe_written, take_written};
+use crate::taking::{take_mark, take_token};
 use crate::value::{Stack, Value};
 use aen_base::NoMem;
 use source_ways::front_list::FrontList;
@@ -290,89 +292,6 @@ pub fn declaration_2(alloc: Global, values: &mut Stack) -> Result<Value, NoMem>
     Ok(Value::Item(Spanned { value, extent }))
 }
 
-/// `Generics` of: nothing.
-pub fn generics_0(alloc: Global, values: &mut Stack) -> Value
-    requires { CanBuild N.Generics 0 (reverse values.old) }
-    ensures { IsBuilt N.Generics 0 (reverse values.old) result (reverse values.new) }
-{
-    let extent = None;
-    let value = items::no_generics(alloc);
-    Value::Generics(Spanned { value, extent })
-}
-
-/// `Generics` of: Less Lifetimes.
-pub fn generics_1(values: &mut Stack) -> Value
-    requires { CanBuild N.Generics 1 (reverse values.old) }
-    ensures { IsBuilt N.Generics 1 (reverse values.old) result (reverse values.new) }
-{
-    let generics = take_generics(values);
-    let mark = take_mark(values);
-    let extent = join(Some(mark), join(generics.extent, None));
-    Value::Generics(Spanned {
-        value: generics.value,
-        extent,
-    })
-}
-
-/// `Lifetimes` of: Greater.
-pub fn lifetimes_0(alloc: Global, values: &mut Stack) -> Value
-    requires { CanBuild N.Lifetimes 0 (reverse values.old) }
-    ensures { IsBuilt N.Lifetimes 0 (reverse values.old) result (reverse values.new) }
-{
-    let mark = take_mark(values);
-    let extent = join(Some(mark), None);
-    let value = items::no_generics(alloc);
-    Value::Generics(Spanned { value, extent })
-}
-
-/// `Lifetimes` of: Lifetime MoreLifetimes. The only error is want of memory.
-pub fn lifetimes_1(alloc: Global, values: &mut Stack) -> Result<Value, NoMem>
-    requires { CanBuild N.Lifetimes 1 (reverse values.old) }
-    ensures { IfOk result (λ it. IsBuilt N.Lifetimes 1 (reverse values.old) it (reverse values.new)) }
-{
-    let more = take_generics(values);
-    let life = take_token(values);
-    let extent = join(Some(life.span), join(more.extent, None));
-    let value = items::first_lifetime(alloc, span_of(extent), life, more)?;
-    Ok(Value::Generics(Spanned { value, extent }))
-}
-
-/// `Lifetimes` of: Identifier ListRest(TypeNames). The only error is want of memory.
-pub fn lifetimes_2(alloc: Global, values: &mut Stack) -> Result<Value, NoMem>
-    requires { CanBuild N.Lifetimes 2 (reverse values.old) }
-    ensures { IfOk result (λ it. IsBuilt N.Lifetimes 2 (reverse values.old) it (reverse values.new)) }
-{
-    let more = take_idents(values);
-    let name = take_token(values);
-    let extent = join(Some(name.span), join(more.extent, None));
-    let value = items::first_type_parameter(alloc, span_of(extent), name, more)?;
-    Ok(Value::Generics(Spanned { value, extent }))
-}
-
-/// `TypeParameters` of: nothing.
-pub fn type_parameters_0(alloc: Global, values: &mut Stack) -> Value
-    requires { CanBuild N.TypeParameters 0 (reverse values.old) }
-    ensures { IsBuilt N.TypeParameters 0 (reverse values.old) result (reverse values.new) }
-{
-    let extent = None;
-    let value = FrontList::new(alloc);
-    Value::Idents(Spanned { value, extent })
-}
-
-/// `TypeParameters` of: Less List(TypeNames).
-pub fn type_parameters_1(values: &mut Stack) -> Value
-    requires { CanBuild N.TypeParameters 1 (reverse values.old) }
-    ensures { IsBuilt N.TypeParameters 1 (reverse values.old) result (reverse values.new) }
-{
-    let names = take_idents(values);
-    let mark = take_mark(values);
-    let extent = join(Some(mark), join(names.extent, None));
-    Value::Idents(Spanned {
-        value: names.value,
-        extent,
-    })
-}
-
 /// `Parameter` of: Mut Identifier Colon Type. The only error is want of memory.
 pub fn parameter_0(alloc: Global, values: &mut Stack) -> Result<Value, NoMem>
     requires { CanBuild N.Parameter 0 (reverse values.old) }
@@ -426,139 +345,4 @@ pub fn result_1(values: &mut Stack) -> Value
     let extent = join(Some(mark), join(ty.extent, None));
     let value = Some(ty.value);
     Value::MaybeWritten(Spanned { value, extent })
-}
-
-/// `StructBody` of: OpenBrace List(Fields).
-pub fn struct_body_0(alloc: Global, values: &mut Stack) -> Value
-    requires { CanBuild N.StructBody 0 (reverse values.old) }
-    ensures { IsBuilt N.StructBody 0 (reverse values.old) result (reverse values.new) }
-{
-    let fields = take_named_fields(values);
-    let brace = take_token(values);
-    let extent = join(Some(brace.span), join(fields.extent, None));
-    let value = items::braces(alloc, span_of(extent), brace, fields);
-    Value::Fields(Spanned { value, extent })
-}
-
-/// `StructBody` of: OpenBracket List(TupleFields) Semicolon.
-pub fn struct_body_1(values: &mut Stack) -> Value
-    requires { CanBuild N.StructBody 1 (reverse values.old) }
-    ensures { IsBuilt N.StructBody 1 (reverse values.old) result (reverse values.new) }
-{
-    let semicolon = take_token(values);
-    let types = take_writtens(values);
-    let bracket = take_token(values);
-    let extent = join(
-        Some(bracket.span),
-        join(types.extent, join(Some(semicolon.span), None)),
-    );
-    let value = items::brackets(span_of(extent), bracket, types, semicolon);
-    Value::Fields(Spanned { value, extent })
-}
-
-/// `StructBody` of: Semicolon.
-pub fn struct_body_2(alloc: Global, values: &mut Stack) -> Value
-    requires { CanBuild N.StructBody 2 (reverse values.old) }
-    ensures { IsBuilt N.StructBody 2 (reverse values.old) result (reverse values.new) }
-{
-    let mark = take_mark(values);
-    let extent = join(Some(mark), None);
-    let value = items::no_fields(alloc);
-    Value::Fields(Spanned { value, extent })
-}
-
-/// `Field` of: Pub Identifier Colon Type. The only error is want of memory.
-pub fn field_0(alloc: Global, values: &mut Stack) -> Result<Value, NoMem>
-    requires { CanBuild N.Field 0 (reverse values.old) }
-    ensures { IfOk result (λ it. IsBuilt N.Field 0 (reverse values.old) it (reverse values.new)) }
-{
-    let ty = take_written(values);
-    let second_mark = take_mark(values);
-    let name = take_token(values);
-    let mark = take_mark(values);
-    let extent = join(
-        Some(mark),
-        join(
-            Some(name.span),
-            join(Some(second_mark), join(ty.extent, None)),
-        ),
-    );
-    let value = items::field(alloc, name, ty)?;
-    Ok(Value::Field(Spanned { value, extent }))
-}
-
-/// `Field` of: Identifier Colon Type. The only error is want of memory.
-pub fn field_1(alloc: Global, values: &mut Stack) -> Result<Value, NoMem>
-    requires { CanBuild N.Field 1 (reverse values.old) }
-    ensures { IfOk result (λ it. IsBuilt N.Field 1 (reverse values.old) it (reverse values.new)) }
-{
-    let ty = take_written(values);
-    let mark = take_mark(values);
-    let name = take_token(values);
-    let extent = join(Some(name.span), join(Some(mark), join(ty.extent, None)));
-    let value = items::field(alloc, name, ty)?;
-    Ok(Value::Field(Spanned { value, extent }))
-}
-
-/// `TupleField` of: Pub Type.
-pub fn tuple_field_0(values: &mut Stack) -> Value
-    requires { CanBuild N.TupleField 0 (reverse values.old) }
-    ensures { IsBuilt N.TupleField 0 (reverse values.old) result (reverse values.new) }
-{
-    let ty = take_written(values);
-    let mark = take_mark(values);
-    let extent = join(Some(mark), join(ty.extent, None));
-    Value::Written(Spanned {
-        value: ty.value,
-        extent,
-    })
-}
-
-/// `TupleField` of: Type.
-pub fn tuple_field_1(values: &mut Stack) -> Value
-    requires { CanBuild N.TupleField 1 (reverse values.old) }
-    ensures { IsBuilt N.TupleField 1 (reverse values.old) result (reverse values.new) }
-{
-    let ty = take_written(values);
-    let extent = join(ty.extent, None);
-    Value::Written(Spanned {
-        value: ty.value,
-        extent,
-    })
-}
-
-/// `Variant` of: Identifier VariantBody. The only error is want of memory.
-pub fn variant_0(alloc: Global, values: &mut Stack) -> Result<Value, NoMem>
-    requires { CanBuild N.Variant 0 (reverse values.old) }
-    ensures { IfOk result (λ it. IsBuilt N.Variant 0 (reverse values.old) it (reverse values.new)) }
-{
-    let types = take_writtens(values);
-    let name = take_token(values);
-    let extent = join(Some(name.span), join(types.extent, None));
-    let value = items::variant(alloc, span_of(extent), name, types)?;
-    Ok(Value::Variant(Spanned { value, extent }))
-}
-
-/// `VariantBody` of: nothing.
-pub fn variant_body_0(alloc: Global, values: &mut Stack) -> Value
-    requires { CanBuild N.VariantBody 0 (reverse values.old) }
-    ensures { IsBuilt N.VariantBody 0 (reverse values.old) result (reverse values.new) }
-{
-    let extent = None;
-    let value = FrontList::new(alloc);
-    Value::Writtens(Spanned { value, extent })
-}
-
-/// `VariantBody` of: OpenBracket List(Types).
-pub fn variant_body_1(values: &mut Stack) -> Value
-    requires { CanBuild N.VariantBody 1 (reverse values.old) }
-    ensures { IsBuilt N.VariantBody 1 (reverse values.old) result (reverse values.new) }
-{
-    let tys = take_writtens(values);
-    let mark = take_mark(values);
-    let extent = join(Some(mark), join(tys.extent, None));
-    Value::Writtens(Spanned {
-        value: tys.value,
-        extent,
-    })
 }

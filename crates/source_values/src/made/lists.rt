@@ -5,11 +5,13 @@ ghost use Rattle.source_grammar.specs.declared.part.Part.TheVariants as N;
 ghost use Rattle.source_values.specs.Stacked.{CanBuild, IsBuilt};
 ghost use Rattle.source_grammar.specs.declared.part.Listed.TheVariants as Of;
 
-use crate::taking::{
-    take_exprs, take_field, take_field_pat, take_field_pats, take_idents, take_initial,
-    take_initials, take_mark, take_named_fields, take_param, take_params, take_pats, take_token,
-    take_variant, take_variants,
+use crate::taking::expressions::{take_exprs, take_initial, take_initials};
+use crate::taking::items::{
+    take_field, take_idents, take_named_fields, take_param, take_params, take_variant,
+    take_variants,
 };
+use crate::taking::patterns::{take_field_pat, take_field_pats, take_pats};
+use crate::taking::{take_mark, take_token};
 use crate::value::{Stack, Value};
 use aen_base::NoMem;
 use source_ways::front_list::FrontList;

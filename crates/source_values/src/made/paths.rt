@@ -5,10 +5,11 @@ ghost use Rattle.source_grammar.specs.declared.part.Part.TheVariants as N;
 ghost use Rattle.source_values.specs.Stacked.{CanBuild, IsBuilt};
 ghost use Rattle.source_grammar.specs.declared.part.Context.TheVariants as At;
 
-use crate::taking::{
-    take_after, take_calling, take_expr, take_exprs, take_further, take_in_mem, take_initials,
-    take_mark, take_nothing, take_token, take_writtens,
-};
+use crate::taking::expressions::{take_expr, take_exprs, take_initials};
+use crate::taking::items::take_nothing;
+use crate::taking::paths::{take_after, take_calling, take_further, take_in_mem};
+use crate::taking::types::take_writtens;
+use crate::taking::{take_mark, take_token};
 use crate::value::{Stack, Value};
 use aen_base::NoMem;
 use source_ways::path_ways;

@@ -4,10 +4,12 @@ ghost use Rattle.std.specs.Prelude.{◌≡◌, reverse, IfOk};
 ghost use Rattle.source_grammar.specs.declared.part.Part.TheVariants as N;
 ghost use Rattle.source_values.specs.Stacked.{CanBuild, IsBuilt};
 
-use crate::taking::{
-    take_after_mem, take_after_name, take_field_pats, take_given, take_mark, take_maybe_pat,
-    take_pat, take_pats, take_token, take_writtens,
+use crate::taking::patterns::{
+    take_after_mem, take_after_name, take_field_pats, take_given, take_maybe_pat, take_pat,
+    take_pats,
 };
+use crate::taking::types::take_writtens;
+use crate::taking::{take_mark, take_token};
 use crate::value::{Stack, Value};
 use aen_base::NoMem;
 use rust_ast::source_patterns::{Pat, PatNode};

@@ -4,9 +4,8 @@ ghost use Rattle.std.specs.Prelude.{◌≡◌, reverse, IfOk};
 ghost use Rattle.source_grammar.specs.declared.part.Part.TheVariants as N;
 ghost use Rattle.source_values.specs.Stacked.{CanBuild, IsBuilt};
 
-use crate::taking::{
-    take_lifetime, take_mark, take_token, take_truth, take_written, take_writtens,
-};
+use crate::taking::types::{take_lifetime, take_truth, take_written, take_writtens};
+use crate::taking::{take_mark, take_token};
 use crate::value::{Stack, Value};
 use aen_base::NoMem;
 use rust_ast::source_types::{Lifetime, LifetimeNode, Written, WrittenNode};
