@@ -438,12 +438,11 @@ class Function:
 
 
 class Arm:
-    """A case, and the call there: of whom, the arguments, whether it can fail, and how its contract fits: None where
-    it does so alone, else the terms of what is required and what is ensured."""
+    """A case, and the call there: of whom, with what, whether it can fail, whether its contract speaks of this part, or
+    of this part only once the level is known."""
 
-    def __init__(self, case, name, call, fallible, own, required=None, ensured=None):
-        self.case, self.name, self.call, self.fallible, self.own = case, name, call, fallible, own
-        self.required, self.ensured = required, ensured
+    def __init__(self, case, name, call, fallible, own, levels=False):
+        self.case, self.name, self.call, self.fallible, self.own, self.levels = case, name, call, fallible, own, levels
 
 
 def calls(entry):
@@ -462,7 +461,7 @@ def place_arms(machine, name, values, part):
         entry = machine.function_of[name, values, place]
         at, call, fallible = calls(entry)
         own = entry[1:4] == (name, (), place)
-        arms.append(Arm(str(place), at, call, fallible, own, "same", "same"))
+        arms.append(Arm(str(place), at, call, fallible, own))
     return arms
 
 
@@ -489,7 +488,6 @@ def part_functions(machine):
                 arms.append(Arm(f"Context::{v[0]}", each, f"{each}({alloc}index, values)", True, True))
             out.append(Function(f"build_{at}", part, "index", "context", params + [index], arms))
         elif "Listed" in kinds:
-            ends = "list_end" if name == "List" else None
             if name == "List":
                 out.append(list_function(machine, name, 0, "list_end", every))
                 out.append(list_function(machine, name, 1, "list_item", every))
@@ -501,20 +499,20 @@ def part_functions(machine):
             for i, each in enumerate(names):
                 function = next(f for f in out if f.name == each)
                 alloc = "alloc, " if uses_alloc(function) else ""
-                arms.append(Arm(str(i), each, f"{each}({alloc}listed, values)", function.fallible, (name, i) != ("ListRest", 0), "same", "same"))
+                arms.append(Arm(str(i), each, f"{each}({alloc}listed, values)", function.fallible, (name, i) != ("ListRest", 0)))
             out.append(Function(f"build_{at}", part, "index", "index", params + [index], arms, True))
         elif name == "More":
             entry = machine.function_of["More", ("Or", "Free"), 0]
             a, call, fallible = calls(entry)
-            arms = [Arm("0", a, call, fallible, False, "levels", "levels"),
-                    Arm("1", "build_operation", "build_operation(alloc, level, context, values)", True, True, None, "same")]
-            inner = [Arm(f"Level::{l}", *calls(machine.function_of["More", (l, "Free"), 1]), False, "level", "level")
+            arms = [Arm("0", a, call, fallible, False, True),
+                    Arm("1", "build_operation", "build_operation(alloc, level, context, values)", True, True)]
+            inner = [Arm(f"Level::{l}", *calls(machine.function_of["More", (l, "Free"), 1]), False)
                      for l in machine.grammar.parameters["Level"][2]]
             out.append(Function("build_operation", part, "1", "level", params, inner))
             out.append(Function(f"build_{at}", part, "index", "index", params + [index], arms, True))
         else:
             entry = machine.function_of[name, every[0], 0]
-            arms = [Arm("0", *calls(entry), False, "levels", "levels")]
+            arms = [Arm("0", *calls(entry), False, True)]
             out.append(Function(f"build_{at}", part, "index", "index", params + [index], arms, True))
     return found
 
@@ -523,7 +521,7 @@ def list_function(machine, name, place, at, every):
     arms = []
     for v in every:
         entry = machine.function_of[name, v, place]
-        arms.append(Arm(f"Listed::{v[0]}", *calls(entry), False, "listed", "listed"))
+        arms.append(Arm(f"Listed::{v[0]}", *calls(entry), False))
     return Function(at, f"(N.{name} listed)", str(place), "listed", [("listed", "Listed")], arms, False, arms[0].fallible)
 
 
@@ -619,8 +617,8 @@ def answers(machine, function):
             fits = f"of_part {part} {here} {place} {old} {known} c.requires"
             word = "built" if function.fallible else "is"
             built = f"{word}_of_part {part} {here} {place} {old} {new} {result} {known} "
-        if not arm.own and arm.required != "alone":
-            if arm.required == "levels":
+        if not arm.own:
+            if arm.levels:
                 out.append((goal, f"levels.{LEVELS[function.name]} {variables} {old} ({fits})"))
                 ensured = f"(levels.{LEVELS[function.name]}_built {variables} {old} {new} {result} {ensured})"
             else:
