@@ -10,7 +10,6 @@ use rust_ast::{Ident, Variable};
 use std::alloc::Global;
 
 /// What is known where a part of a body stands.
-#[derive(Drop)]
 pub struct State {
     /// The names in scope with their variables, the newest last.
     pub(crate) scope: Scope,
@@ -18,6 +17,17 @@ pub struct State {
     pub(crate) variables: List<Variable>,
     /// How many loops there are so far.
     pub(crate) loops: u32,
+}
+
+/// By hand, as a derived `drop` is written out at each `?`.
+impl Drop for State {
+    fn drop(self) {
+        let State {
+            scope: _,
+            variables: _,
+            loops: _,
+        } = self;
+    }
 }
 
 impl State {
