@@ -287,12 +287,7 @@ fn function_body(
 {
     let start = beginning(alloc, f.params.as_slice())?;
     let (body, after) = resolve_block(alloc, tables, generics, &f.body, start)?;
-    let State {
-        scope: _scope,
-        variables,
-        loops: _,
-    } = after;
-    Ok((body, variables))
+    Ok((body, after.into_variables()))
 }
 
 /// The types of a function, and its body.

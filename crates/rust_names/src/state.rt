@@ -31,6 +31,18 @@ impl Drop for State {
 }
 
 impl State {
+    /// The function's variables.
+    pub(crate) fn into_variables(self) -> List<Variable>
+        ensures { result ≡ self.variables }
+    {
+        let State {
+            scope: _,
+            variables,
+            loops: _,
+        } = self;
+        variables
+    }
+
     /// One variable more, which is not in scope yet.
     pub(crate) fn with_variable(
         self,

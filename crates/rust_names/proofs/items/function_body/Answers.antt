@@ -1,3 +1,5 @@
+use Rattle.std.proofs.Common.{ap, sym, ◌∙◌}
+use Rattle.std.specs.Prelude.{Ok}
 use Rattle.rust_names.specs.Resolution.{function_body}
 use Rattle.rust_names.specs.Uses.{read_block}
 use Rattle.rust_names.proofs.Bodies.{passes}
@@ -13,3 +15,4 @@ returns-in_err-body c =
 pub returns : goal.returns
 returns c =
     body_gives c.args.tables.now c.args.generics.now c.args.f.now c.as_slice.result.now c.in_ok-start.start c.in_ok-body.after c.in_ok-body.body c.in_ok-start.ensures c.as_slice.ensures c.in_ok-body.ensures
+    ∙ ap (λ vs. Ok (c.in_ok-body.body, vs)) (sym c.into_variables.ensures)
