@@ -295,6 +295,7 @@ def spelled():
     )
 
 
+OWN_DROPS = True
 TREES = {
     "SourceTypes": type_tree(False), "SourcePatterns": pattern_tree(False), "Source": expression_tree(False),
     "Written": type_tree(True), "Patterns": pattern_tree(True), "Resolved": expression_tree(True),

@@ -1,14 +1,14 @@
 -- A node's parts are smaller than the node.
 -- Made by tools/code.py from tools/rust_ast.desc.py.
-use Rattle.std.specs.Prelude.{ℕ, ◌+◌, ◌≤◌, List, [], ◌∷◌, Some, None}
+use Rattle.std.specs.Prelude.{ℕ, ◌+◌, ◌*◌, ◌≤◌, List, [], ◌∷◌, Some, None}
 use Rattle.std.proofs.Common.{arith}
-use denote.Param.Weighed.{most}
+use denote.Param.Weighed.{most, w_this}
 use Rattle.rust_ast.specs.Source as t
 use Rattle.rust_ast.specs.SourceView.{block_of, expr_of, stmt_of}
 use Rattle.rust_ast.specs.SourcePatterns.{Pat}
 use Rattle.rust_ast.specs.Patterns.{Name}
 use Rattle.aen_base.specs.declared.span.Span.{Span}
-use Rattle.rust_ast.specs.declared.source.Block.TheDeep.{deep-BlockNode, deep-ExprNode, deep-StmtNode}
+use Rattle.rust_ast.specs.declared.source.Block.TheDeep.{deep-BlockNode, deep-ExprNode, deep-StmtNode, size-Expr, size-Stmt}
 use Rattle.rust_ast.specs.declared.source.Block.TheShapes as shapes
 use Rattle.rust_ast.specs.declared.source.BlockNode.{BlockNode}
 use Rattle.rust_ast.specs.declared.source.BlockNode.TheVariants as Block_
@@ -21,12 +21,26 @@ most_exprs : (xs : List t.Expr) → most (λ x. t.nodes_expr x + 1) xs ≤ t.nod
 most_exprs [] = omega arith
 most_exprs (x ∷ xs) = omega (arith, most_exprs xs)
 
+abbrev size_exprs : t.Expr → ℕ
+size_exprs = w_this.weight t.Expr size-Expr
+
+pub drop_exprs : (xs : List t.Expr) → most size_exprs xs ≤ 2 * t.nodes_exprs (t.exprs xs)
+drop_exprs [] = omega arith
+drop_exprs (x ∷ xs) = omega (arith, drop_exprs xs)
+
 abbrev weight_arms : Pat × t.Expr → ℕ
 weight_arms = shapes.weighed-ExprNode-Select-2-at-2.weight t.Expr (λ y. t.nodes_expr y + 1)
 
 most_arms : (xs : List (Pat × t.Expr)) → most weight_arms xs ≤ t.nodes_arms (t.arms xs) + 1
 most_arms [] = omega arith
 most_arms (x ∷ xs) = omega (arith, most_arms xs)
+
+abbrev size_arms : (Pat × t.Expr) → ℕ
+size_arms = shapes.weighed-ExprNode-Select-2-at-2.weight t.Expr size-Expr
+
+pub drop_arms : (xs : List (Pat × t.Expr)) → most size_arms xs ≤ 2 * t.nodes_arms (t.arms xs)
+drop_arms [] = omega arith
+drop_arms (x ∷ xs) = omega (arith, drop_arms xs)
 
 abbrev weight_inits : Span × Name × t.Expr → ℕ
 weight_inits = shapes.weighed-ExprNode-Literal-3-at-3.weight t.Expr (λ y. t.nodes_expr y + 1)
@@ -35,9 +49,23 @@ most_inits : (xs : List (Span × Name × t.Expr)) → most weight_inits xs ≤ t
 most_inits [] = omega arith
 most_inits (x ∷ xs) = omega (arith, most_inits xs)
 
+abbrev size_inits : (Span × Name × t.Expr) → ℕ
+size_inits = shapes.weighed-ExprNode-Literal-3-at-3.weight t.Expr size-Expr
+
+pub drop_inits : (xs : List (Span × Name × t.Expr)) → most size_inits xs ≤ 2 * t.nodes_inits (t.inits xs)
+drop_inits [] = omega arith
+drop_inits (x ∷ xs) = omega (arith, drop_inits xs)
+
 most_stmts : (xs : List t.Stmt) → most (λ x. t.nodes_stmt x + 1) xs ≤ t.nodes_stmts (t.stmts xs) + 1
 most_stmts [] = omega arith
 most_stmts (x ∷ xs) = omega (arith, most_stmts xs)
+
+abbrev size_stmts : t.Stmt → ℕ
+size_stmts = w_this.weight t.Stmt size-Stmt
+
+pub drop_stmts : (xs : List t.Stmt) → most size_stmts xs ≤ 2 * t.nodes_stmts (t.stmts xs)
+drop_stmts [] = omega arith
+drop_stmts (x ∷ xs) = omega (arith, drop_stmts xs)
 
 pub block_falls : (e : BlockNode) → deep-BlockNode e ≤ t.nodes_block (block_of e)
 block_falls (Block_.Block a0 a1 (Some x)) = omega (arith, most_stmts a1)

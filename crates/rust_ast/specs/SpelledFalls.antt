@@ -1,12 +1,12 @@
 -- A node's parts are smaller than the node.
 -- Made by tools/code.py from tools/rust_ast.desc.py.
-use Rattle.std.specs.Prelude.{ℕ, ◌+◌, ◌≤◌, List, [], ◌∷◌, Some, None}
+use Rattle.std.specs.Prelude.{ℕ, ◌+◌, ◌*◌, ◌≤◌, List, [], ◌∷◌, Some, None}
 use Rattle.std.proofs.Common.{arith}
-use denote.Param.Weighed.{most}
+use denote.Param.Weighed.{most, w_this}
 use Rattle.rust_ast.specs.Spelled as t
 use Rattle.rust_ast.specs.SpelledView.{block_of, form_of, place_of, scrutinee_of, stmt_of, val_of}
 use Rattle.rust_ast.specs.SpelledPatterns.{Pat}
-use Rattle.rust_ast.specs.declared.spelled.Block.TheDeep.{deep-BlockNode, deep-FormNode, deep-PlaceNode, deep-ScrutineeNode, deep-StmtNode, deep-ValNode}
+use Rattle.rust_ast.specs.declared.spelled.Block.TheDeep.{deep-BlockNode, deep-FormNode, deep-PlaceNode, deep-ScrutineeNode, deep-StmtNode, deep-ValNode, size-Stmt, size-Val}
 use Rattle.rust_ast.specs.declared.spelled.Block.TheShapes as shapes
 use Rattle.rust_ast.specs.declared.spelled.BlockNode.{BlockNode}
 use Rattle.rust_ast.specs.declared.spelled.BlockNode.TheVariants as Block_
@@ -25,12 +25,26 @@ most_values : (xs : List t.Val) → most (λ x. t.nodes_val x + 1) xs ≤ t.node
 most_values [] = omega arith
 most_values (x ∷ xs) = omega (arith, most_values xs)
 
+abbrev size_values : t.Val → ℕ
+size_values = w_this.weight t.Val size-Val
+
+pub drop_values : (xs : List t.Val) → most size_values xs ≤ 2 * t.nodes_values (t.values xs)
+drop_values [] = omega arith
+drop_values (x ∷ xs) = omega (arith, drop_values xs)
+
 abbrev weight_parts : ℕ × t.Val → ℕ
 weight_parts = shapes.weighed-FormNode-Construct-2-at-2.weight t.Val (λ y. t.nodes_val y + 1)
 
 most_parts : (xs : List (ℕ × t.Val)) → most weight_parts xs ≤ t.nodes_parts (t.parts xs) + 1
 most_parts [] = omega arith
 most_parts (x ∷ xs) = omega (arith, most_parts xs)
+
+abbrev size_parts : (ℕ × t.Val) → ℕ
+size_parts = shapes.weighed-FormNode-Construct-2-at-2.weight t.Val size-Val
+
+pub drop_parts : (xs : List (ℕ × t.Val)) → most size_parts xs ≤ 2 * t.nodes_parts (t.parts xs)
+drop_parts [] = omega arith
+drop_parts (x ∷ xs) = omega (arith, drop_parts xs)
 
 abbrev weight_arms : Pat × t.Val → ℕ
 weight_arms = shapes.weighed-FormNode-Select-1-at-2.weight t.Val (λ y. t.nodes_val y + 1)
@@ -39,9 +53,23 @@ most_arms : (xs : List (Pat × t.Val)) → most weight_arms xs ≤ t.nodes_arms 
 most_arms [] = omega arith
 most_arms (x ∷ xs) = omega (arith, most_arms xs)
 
+abbrev size_arms : (Pat × t.Val) → ℕ
+size_arms = shapes.weighed-FormNode-Select-1-at-2.weight t.Val size-Val
+
+pub drop_arms : (xs : List (Pat × t.Val)) → most size_arms xs ≤ 2 * t.nodes_arms (t.arms xs)
+drop_arms [] = omega arith
+drop_arms (x ∷ xs) = omega (arith, drop_arms xs)
+
 most_stmts : (xs : List t.Stmt) → most (λ x. t.nodes_stmt x + 1) xs ≤ t.nodes_stmts (t.stmts xs) + 1
 most_stmts [] = omega arith
 most_stmts (x ∷ xs) = omega (arith, most_stmts xs)
+
+abbrev size_stmts : t.Stmt → ℕ
+size_stmts = w_this.weight t.Stmt size-Stmt
+
+pub drop_stmts : (xs : List t.Stmt) → most size_stmts xs ≤ 2 * t.nodes_stmts (t.stmts xs)
+drop_stmts [] = omega arith
+drop_stmts (x ∷ xs) = omega (arith, drop_stmts xs)
 
 pub block_falls : (e : BlockNode) → deep-BlockNode e ≤ t.nodes_block (block_of e)
 block_falls (Block_.Block a0 a1 a2 a3 (Some x)) = omega (arith, most_stmts a3)

@@ -5,9 +5,23 @@ use std::marker::Model;
 
 /// A pattern. Each form begins with its span.
 #[cycle(patterns)]
-#[derive(Drop)]
 pub struct Pat {
     pub node: PatNode,
+}
+
+impl Drop for Pat {
+    fn drop(self) {
+        let Pat { node } = self;
+        match node {
+            PatNode::Wild(_) => {}
+            PatNode::Bind(_, _, _, _) => {}
+            PatNode::Number(_, _, _, _) => {}
+            PatNode::Truth(_, _) => {}
+            PatNode::Tuple(_, _tuple) => {}
+            PatNode::Construct(_, _, _, _, _construct) => {}
+            PatNode::Literal(_, _, _, _, _literal) => {}
+        }
+    }
 }
 
 /// The forms of `Pat`.
@@ -47,4 +61,17 @@ impl Model for Pat {
     ghost use Rattle.rust_ast.specs.PatternsFalls.{pat_falls};
 
     ghost size_decreases = { λ a h. Prim.omega (arith, pat_falls a.node) };
+}
+
+impl Pat {
+    ghost use Rattle.std.specs.Prelude.{◌≡◌};
+    ghost use Rattle.rust_ast.specs.PatternsView.{pat_of};
+
+    /// The form, taken out.
+    pub fn into_node(self) -> PatNode
+        ensures { pat_of result ≡ self }
+    {
+        let Pat { node } = self;
+        node
+    }
 }

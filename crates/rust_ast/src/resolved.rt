@@ -5,9 +5,14 @@ use aen_base::{BinOp, Boxed, Builtin, CmpOp, IntTy, List, Name, Span, TypeId};
 use std::marker::Model;
 
 /// What is called.
-#[derive(Drop)]
 pub struct Callee {
     pub node: CalleeNode,
+}
+
+impl Drop for Callee {
+    fn drop(self) {
+        let Callee { node: _ } = self;
+    }
 }
 
 /// The forms of `Callee`.
@@ -23,9 +28,43 @@ pub enum CalleeNode {
 
 /// An expression. Each form begins with its span; that of a block is the block's.
 #[cycle(resolved)]
-#[derive(Drop)]
 pub struct Expr {
     pub node: ExprNode,
+}
+
+impl Drop for Expr {
+    #[cycle(dropping_resolved)]
+    fn drop(self) {
+        let Expr { node } = self;
+        match node {
+            ExprNode::Number(_, _, _, _) => {}
+            ExprNode::Truth(_, _) => {}
+            ExprNode::Tuple(_, _tuple) => {}
+            ExprNode::Inner(_) => {}
+            ExprNode::Branch(_, _, _, _) => {}
+            ExprNode::Select(_, _, _select) => {}
+            ExprNode::Forever(_, _, _, _) => {}
+            ExprNode::Panic(_) => {}
+            ExprNode::Variable(_, _) => {}
+            ExprNode::Call(_, _, _, _call) => {}
+            ExprNode::Literal(_, _, _, _, _literal) => {}
+            ExprNode::Field(_, _, _, _) => {}
+            ExprNode::Minus(_, _) => {}
+            ExprNode::Negation(_, _) => {}
+            ExprNode::Deref(_, _) => {}
+            ExprNode::Borrow(_, _, _) => {}
+            ExprNode::Binary(_, _, _, _) => {}
+            ExprNode::Compare(_, _, _, _) => {}
+            ExprNode::Both(_, _, _) => {}
+            ExprNode::Either(_, _, _) => {}
+            ExprNode::Cast(_, _, _) => {}
+            ExprNode::Assign(_, _, _) => {}
+            ExprNode::Update(_, _, _, _) => {}
+            ExprNode::Give(_, _) => {}
+            ExprNode::Leave(_, _) => {}
+            ExprNode::GoOn(_) => {}
+        }
+    }
 }
 
 /// The forms of `Expr`.
@@ -88,9 +127,15 @@ pub enum ExprNode {
 
 /// A statement.
 #[cycle(resolved)]
-#[derive(Drop)]
 pub struct Stmt {
     pub node: StmtNode,
+}
+
+impl Drop for Stmt {
+    #[cycle(dropping_resolved)]
+    fn drop(self) {
+        let Stmt { node: _ } = self;
+    }
 }
 
 /// The forms of `Stmt`.
@@ -105,9 +150,18 @@ pub enum StmtNode {
 
 /// A block.
 #[cycle(resolved)]
-#[derive(Drop)]
 pub struct Block {
     pub node: BlockNode,
+}
+
+impl Drop for Block {
+    #[cycle(dropping_resolved)]
+    fn drop(self) {
+        let Block { node } = self;
+        match node {
+            BlockNode::Block(_, _block, _) => {}
+        }
+    }
 }
 
 /// The forms of `Block`.
@@ -130,6 +184,19 @@ impl Model for Callee {
     ghost view = { λ e. callee_of e.node };
 }
 
+impl Callee {
+    ghost use Rattle.std.specs.Prelude.{◌≡◌};
+    ghost use Rattle.rust_ast.specs.ResolvedView.{callee_of};
+
+    /// The form, taken out.
+    pub fn into_node(self) -> CalleeNode
+        ensures { callee_of result ≡ self }
+    {
+        let Callee { node } = self;
+        node
+    }
+}
+
 impl Model for Expr {
     ghost use Rattle.rust_ast.specs.Resolved.{Expr, coded_expr, nodes_expr};
 
@@ -147,6 +214,19 @@ impl Model for Expr {
     ghost use Rattle.rust_ast.specs.ResolvedFalls.{expr_falls};
 
     ghost size_decreases = { λ a h. Prim.omega (arith, expr_falls a.node) };
+}
+
+impl Expr {
+    ghost use Rattle.std.specs.Prelude.{◌≡◌};
+    ghost use Rattle.rust_ast.specs.ResolvedView.{expr_of};
+
+    /// The form, taken out.
+    pub fn into_node(self) -> ExprNode
+        ensures { expr_of result ≡ self }
+    {
+        let Expr { node } = self;
+        node
+    }
 }
 
 impl Model for Stmt {
@@ -168,6 +248,19 @@ impl Model for Stmt {
     ghost size_decreases = { λ a h. Prim.omega (arith, stmt_falls a.node) };
 }
 
+impl Stmt {
+    ghost use Rattle.std.specs.Prelude.{◌≡◌};
+    ghost use Rattle.rust_ast.specs.ResolvedView.{stmt_of};
+
+    /// The form, taken out.
+    pub fn into_node(self) -> StmtNode
+        ensures { stmt_of result ≡ self }
+    {
+        let Stmt { node } = self;
+        node
+    }
+}
+
 impl Model for Block {
     ghost use Rattle.rust_ast.specs.Resolved.{Block, coded_block, nodes_block};
 
@@ -185,4 +278,17 @@ impl Model for Block {
     ghost use Rattle.rust_ast.specs.ResolvedFalls.{block_falls};
 
     ghost size_decreases = { λ a h. Prim.omega (arith, block_falls a.node) };
+}
+
+impl Block {
+    ghost use Rattle.std.specs.Prelude.{◌≡◌};
+    ghost use Rattle.rust_ast.specs.ResolvedView.{block_of};
+
+    /// The form, taken out.
+    pub fn into_node(self) -> BlockNode
+        ensures { block_of result ≡ self }
+    {
+        let Block { node } = self;
+        node
+    }
 }

@@ -7,9 +7,44 @@ use std::marker::Model;
 
 /// An expression. Each form begins with its span; that of a block is the block's.
 #[cycle(source)]
-#[derive(Drop)]
 pub struct Expr {
     pub node: ExprNode,
+}
+
+impl Drop for Expr {
+    #[cycle(dropping_source)]
+    fn drop(self) {
+        let Expr { node } = self;
+        match node {
+            ExprNode::Number(_, _, _, _) => {}
+            ExprNode::Truth(_, _) => {}
+            ExprNode::Tuple(_, _tuple) => {}
+            ExprNode::Inner(_) => {}
+            ExprNode::Branch(_, _, _, _) => {}
+            ExprNode::Select(_, _, _select) => {}
+            ExprNode::LetBranch(_, _, _, _, _) => {}
+            ExprNode::Forever(_, _, _) => {}
+            ExprNode::Panic(_) => {}
+            ExprNode::Path(_, _) => {}
+            ExprNode::Call(_, _, _, _call) => {}
+            ExprNode::Literal(_, _, _, _literal) => {}
+            ExprNode::Field(_, _, _, _) => {}
+            ExprNode::Minus(_, _) => {}
+            ExprNode::Negation(_, _) => {}
+            ExprNode::Deref(_, _) => {}
+            ExprNode::Borrow(_, _, _) => {}
+            ExprNode::Binary(_, _, _, _) => {}
+            ExprNode::Compare(_, _, _, _) => {}
+            ExprNode::Both(_, _, _) => {}
+            ExprNode::Either(_, _, _) => {}
+            ExprNode::Cast(_, _, _) => {}
+            ExprNode::Assign(_, _, _) => {}
+            ExprNode::Update(_, _, _, _) => {}
+            ExprNode::Give(_, _) => {}
+            ExprNode::Leave(_, _) => {}
+            ExprNode::GoOn(_) => {}
+        }
+    }
 }
 
 /// The forms of `Expr`.
@@ -74,9 +109,15 @@ pub enum ExprNode {
 
 /// A statement.
 #[cycle(source)]
-#[derive(Drop)]
 pub struct Stmt {
     pub node: StmtNode,
+}
+
+impl Drop for Stmt {
+    #[cycle(dropping_source)]
+    fn drop(self) {
+        let Stmt { node: _ } = self;
+    }
 }
 
 /// The forms of `Stmt`.
@@ -91,9 +132,18 @@ pub enum StmtNode {
 
 /// A block.
 #[cycle(source)]
-#[derive(Drop)]
 pub struct Block {
     pub node: BlockNode,
+}
+
+impl Drop for Block {
+    #[cycle(dropping_source)]
+    fn drop(self) {
+        let Block { node } = self;
+        match node {
+            BlockNode::Block(_, _block, _) => {}
+        }
+    }
 }
 
 /// The forms of `Block`.
@@ -123,6 +173,19 @@ impl Model for Expr {
     ghost size_decreases = { λ a h. Prim.omega (arith, expr_falls a.node) };
 }
 
+impl Expr {
+    ghost use Rattle.std.specs.Prelude.{◌≡◌};
+    ghost use Rattle.rust_ast.specs.SourceView.{expr_of};
+
+    /// The form, taken out.
+    pub fn into_node(self) -> ExprNode
+        ensures { expr_of result ≡ self }
+    {
+        let Expr { node } = self;
+        node
+    }
+}
+
 impl Model for Stmt {
     ghost use Rattle.rust_ast.specs.Source.{Stmt, coded_stmt, nodes_stmt};
 
@@ -142,6 +205,19 @@ impl Model for Stmt {
     ghost size_decreases = { λ a h. Prim.omega (arith, stmt_falls a.node) };
 }
 
+impl Stmt {
+    ghost use Rattle.std.specs.Prelude.{◌≡◌};
+    ghost use Rattle.rust_ast.specs.SourceView.{stmt_of};
+
+    /// The form, taken out.
+    pub fn into_node(self) -> StmtNode
+        ensures { stmt_of result ≡ self }
+    {
+        let Stmt { node } = self;
+        node
+    }
+}
+
 impl Model for Block {
     ghost use Rattle.rust_ast.specs.Source.{Block, coded_block, nodes_block};
 
@@ -159,4 +235,17 @@ impl Model for Block {
     ghost use Rattle.rust_ast.specs.SourceFalls.{block_falls};
 
     ghost size_decreases = { λ a h. Prim.omega (arith, block_falls a.node) };
+}
+
+impl Block {
+    ghost use Rattle.std.specs.Prelude.{◌≡◌};
+    ghost use Rattle.rust_ast.specs.SourceView.{block_of};
+
+    /// The form, taken out.
+    pub fn into_node(self) -> BlockNode
+        ensures { block_of result ≡ self }
+    {
+        let Block { node } = self;
+        node
+    }
 }

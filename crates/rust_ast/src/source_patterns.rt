@@ -6,9 +6,25 @@ use std::marker::Model;
 
 /// A pattern. Each form begins with its span.
 #[cycle(source_patterns)]
-#[derive(Drop)]
 pub struct Pat {
     pub node: PatNode,
+}
+
+impl Drop for Pat {
+    #[cycle(dropping_source_patterns)]
+    fn drop(self) {
+        let Pat { node } = self;
+        match node {
+            PatNode::Wild(_) => {}
+            PatNode::Lone(_) => {}
+            PatNode::MutBind(_, _) => {}
+            PatNode::Number(_, _, _, _) => {}
+            PatNode::Truth(_, _) => {}
+            PatNode::Tuple(_, _tuple) => {}
+            PatNode::Construct(_, _, _construct) => {}
+            PatNode::Literal(_, _, _literal) => {}
+        }
+    }
 }
 
 /// The forms of `Pat`.
@@ -35,9 +51,15 @@ pub enum PatNode {
 
 /// A field in braces.
 #[cycle(source_patterns)]
-#[derive(Drop)]
 pub struct FieldPat {
     pub node: FieldPatNode,
+}
+
+impl Drop for FieldPat {
+    #[cycle(dropping_source_patterns)]
+    fn drop(self) {
+        let FieldPat { node: _ } = self;
+    }
 }
 
 /// The forms of `FieldPat`.
@@ -69,6 +91,19 @@ impl Model for Pat {
     ghost size_decreases = { λ a h. Prim.omega (arith, pat_falls a.node) };
 }
 
+impl Pat {
+    ghost use Rattle.std.specs.Prelude.{◌≡◌};
+    ghost use Rattle.rust_ast.specs.SourcePatternsView.{pat_of};
+
+    /// The form, taken out.
+    pub fn into_node(self) -> PatNode
+        ensures { pat_of result ≡ self }
+    {
+        let Pat { node } = self;
+        node
+    }
+}
+
 impl Model for FieldPat {
     ghost use Rattle.rust_ast.specs.SourcePatterns.{FieldPat, coded_fieldpat, nodes_fieldpat};
 
@@ -86,4 +121,17 @@ impl Model for FieldPat {
     ghost use Rattle.rust_ast.specs.SourcePatternsFalls.{fieldpat_falls};
 
     ghost size_decreases = { λ a h. Prim.omega (arith, fieldpat_falls a.node) };
+}
+
+impl FieldPat {
+    ghost use Rattle.std.specs.Prelude.{◌≡◌};
+    ghost use Rattle.rust_ast.specs.SourcePatternsView.{fieldpat_of};
+
+    /// The form, taken out.
+    pub fn into_node(self) -> FieldPatNode
+        ensures { fieldpat_of result ≡ self }
+    {
+        let FieldPat { node } = self;
+        node
+    }
 }

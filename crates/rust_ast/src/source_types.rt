@@ -4,9 +4,14 @@ use aen_base::{Boxed, IntTy, List, Span};
 use std::marker::Model;
 
 /// The lifetime of a reference type.
-#[derive(Drop)]
 pub struct Lifetime {
     pub node: LifetimeNode,
+}
+
+impl Drop for Lifetime {
+    fn drop(self) {
+        let Lifetime { node: _ } = self;
+    }
 }
 
 /// The forms of `Lifetime`.
@@ -19,9 +24,14 @@ pub enum LifetimeNode {
 }
 
 /// Perhaps a list of type arguments, after `::`.
-#[derive(Drop)]
 pub struct Turbo {
     pub node: TurboNode,
+}
+
+impl Drop for Turbo {
+    fn drop(self) {
+        let Turbo { node: _ } = self;
+    }
 }
 
 /// The forms of `Turbo`.
@@ -34,9 +44,14 @@ pub enum TurboNode {
 }
 
 /// A path.
-#[derive(Drop)]
 pub struct Path {
     pub node: PathNode,
+}
+
+impl Drop for Path {
+    fn drop(self) {
+        let Path { node: _ } = self;
+    }
 }
 
 /// The forms of `Path`.
@@ -56,9 +71,23 @@ pub enum PathNode {
 
 /// A type as it is written. Each form begins with its span.
 #[cycle(source_types)]
-#[derive(Drop)]
 pub struct Written {
     pub node: WrittenNode,
+}
+
+impl Drop for Written {
+    fn drop(self) {
+        let Written { node } = self;
+        match node {
+            WrittenNode::Int(_, _) => {}
+            WrittenNode::Bool(_) => {}
+            WrittenNode::Unit(_) => {}
+            WrittenNode::Tuple(_, _tuple) => {}
+            WrittenNode::Ref(_, _, _, _) => {}
+            WrittenNode::Boxed(_, _) => {}
+            WrittenNode::Named(_, _, _named) => {}
+        }
+    }
 }
 
 /// The forms of `Written`.
@@ -93,6 +122,19 @@ impl Model for Lifetime {
     ghost view = { λ e. lifetime_of e.node };
 }
 
+impl Lifetime {
+    ghost use Rattle.std.specs.Prelude.{◌≡◌};
+    ghost use Rattle.rust_ast.specs.SourceTypesView.{lifetime_of};
+
+    /// The form, taken out.
+    pub fn into_node(self) -> LifetimeNode
+        ensures { lifetime_of result ≡ self }
+    {
+        let Lifetime { node } = self;
+        node
+    }
+}
+
 impl Model for Turbo {
     ghost use Rattle.rust_ast.specs.SourceTypes.{Turbo, coded_turbo};
 
@@ -105,6 +147,19 @@ impl Model for Turbo {
     ghost view = { λ e. turbo_of e.node };
 }
 
+impl Turbo {
+    ghost use Rattle.std.specs.Prelude.{◌≡◌};
+    ghost use Rattle.rust_ast.specs.SourceTypesView.{turbo_of};
+
+    /// The form, taken out.
+    pub fn into_node(self) -> TurboNode
+        ensures { turbo_of result ≡ self }
+    {
+        let Turbo { node } = self;
+        node
+    }
+}
+
 impl Model for Path {
     ghost use Rattle.rust_ast.specs.SourceTypes.{Path, coded_path};
 
@@ -115,6 +170,19 @@ impl Model for Path {
     ghost use Rattle.rust_ast.specs.SourceTypesView.{path_of};
 
     ghost view = { λ e. path_of e.node };
+}
+
+impl Path {
+    ghost use Rattle.std.specs.Prelude.{◌≡◌};
+    ghost use Rattle.rust_ast.specs.SourceTypesView.{path_of};
+
+    /// The form, taken out.
+    pub fn into_node(self) -> PathNode
+        ensures { path_of result ≡ self }
+    {
+        let Path { node } = self;
+        node
+    }
 }
 
 impl Model for Written {
@@ -134,4 +202,17 @@ impl Model for Written {
     ghost use Rattle.rust_ast.specs.SourceTypesFalls.{written_falls};
 
     ghost size_decreases = { λ a h. Prim.omega (arith, written_falls a.node) };
+}
+
+impl Written {
+    ghost use Rattle.std.specs.Prelude.{◌≡◌};
+    ghost use Rattle.rust_ast.specs.SourceTypesView.{written_of};
+
+    /// The form, taken out.
+    pub fn into_node(self) -> WrittenNode
+        ensures { written_of result ≡ self }
+    {
+        let Written { node } = self;
+        node
+    }
 }

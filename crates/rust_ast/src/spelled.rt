@@ -6,9 +6,15 @@ use std::marker::Model;
 
 /// An expression that gives a value.
 #[cycle(spelled)]
-#[derive(Drop)]
 pub struct Val {
     pub node: ValNode,
+}
+
+impl Drop for Val {
+    #[cycle(dropping_spelled)]
+    fn drop(self) {
+        let Val { node: _ } = self;
+    }
 }
 
 /// The forms of `Val`.
@@ -20,9 +26,14 @@ pub enum ValNode {
 }
 
 /// What is called.
-#[derive(Drop)]
 pub struct Callee {
     pub node: CalleeNode,
+}
+
+impl Drop for Callee {
+    fn drop(self) {
+        let Callee { node: _ } = self;
+    }
 }
 
 /// The forms of `Callee`.
@@ -36,9 +47,42 @@ pub enum CalleeNode {
 
 /// What a value is.
 #[cycle(spelled)]
-#[derive(Drop)]
 pub struct Form {
     pub node: FormNode,
+}
+
+impl Drop for Form {
+    #[cycle(dropping_spelled)]
+    fn drop(self) {
+        let Form { node } = self;
+        match node {
+            FormNode::Number(_) => {}
+            FormNode::Truth(_) => {}
+            FormNode::Tuple(_tuple) => {}
+            FormNode::Construct(_, _, _construct) => {}
+            FormNode::UseOf(_, _) => {}
+            FormNode::FieldOf(_, _, _) => {}
+            FormNode::UnboxOf(_, _) => {}
+            FormNode::Borrow(_, _) => {}
+            FormNode::Minus(_) => {}
+            FormNode::Negation(_) => {}
+            FormNode::Binary(_, _, _) => {}
+            FormNode::Compare(_, _, _) => {}
+            FormNode::Cast(_, _) => {}
+            FormNode::Both(_, _) => {}
+            FormNode::Either(_, _) => {}
+            FormNode::Call(_, _, _call) => {}
+            FormNode::Assign(_, _) => {}
+            FormNode::Update(_, _, _, _) => {}
+            FormNode::Inner(_) => {}
+            FormNode::Select(_, _select) => {}
+            FormNode::Forever(_, _, _, _) => {}
+            FormNode::Leave(_, _) => {}
+            FormNode::GoOn(_) => {}
+            FormNode::Give(_) => {}
+            FormNode::Panic => {}
+        }
+    }
 }
 
 /// The forms of `Form`.
@@ -99,9 +143,15 @@ pub enum FormNode {
 
 /// A place. What uses it has its type and its span.
 #[cycle(spelled)]
-#[derive(Drop)]
 pub struct Place {
     pub node: PlaceNode,
+}
+
+impl Drop for Place {
+    #[cycle(dropping_spelled)]
+    fn drop(self) {
+        let Place { node: _ } = self;
+    }
 }
 
 /// The forms of `Place`.
@@ -122,9 +172,15 @@ pub enum PlaceNode {
 
 /// What a `match` looks at.
 #[cycle(spelled)]
-#[derive(Drop)]
 pub struct Scrutinee {
     pub node: ScrutineeNode,
+}
+
+impl Drop for Scrutinee {
+    #[cycle(dropping_spelled)]
+    fn drop(self) {
+        let Scrutinee { node: _ } = self;
+    }
 }
 
 /// The forms of `Scrutinee`.
@@ -139,9 +195,15 @@ pub enum ScrutineeNode {
 
 /// A statement.
 #[cycle(spelled)]
-#[derive(Drop)]
 pub struct Stmt {
     pub node: StmtNode,
+}
+
+impl Drop for Stmt {
+    #[cycle(dropping_spelled)]
+    fn drop(self) {
+        let Stmt { node: _ } = self;
+    }
 }
 
 /// The forms of `Stmt`.
@@ -162,9 +224,18 @@ pub enum StmtNode {
 
 /// A block.
 #[cycle(spelled)]
-#[derive(Drop)]
 pub struct Block {
     pub node: BlockNode,
+}
+
+impl Drop for Block {
+    #[cycle(dropping_spelled)]
+    fn drop(self) {
+        let Block { node } = self;
+        match node {
+            BlockNode::Block(_, _, _, _block, _) => {}
+        }
+    }
 }
 
 /// The forms of `Block`.
@@ -194,6 +265,19 @@ impl Model for Val {
     ghost size_decreases = { λ a h. Prim.omega (arith, val_falls a.node) };
 }
 
+impl Val {
+    ghost use Rattle.std.specs.Prelude.{◌≡◌};
+    ghost use Rattle.rust_ast.specs.SpelledView.{val_of};
+
+    /// The form, taken out.
+    pub fn into_node(self) -> ValNode
+        ensures { val_of result ≡ self }
+    {
+        let Val { node } = self;
+        node
+    }
+}
+
 impl Model for Callee {
     ghost use Rattle.rust_ast.specs.Spelled.{Callee, coded_callee};
 
@@ -204,6 +288,19 @@ impl Model for Callee {
     ghost use Rattle.rust_ast.specs.SpelledView.{callee_of};
 
     ghost view = { λ e. callee_of e.node };
+}
+
+impl Callee {
+    ghost use Rattle.std.specs.Prelude.{◌≡◌};
+    ghost use Rattle.rust_ast.specs.SpelledView.{callee_of};
+
+    /// The form, taken out.
+    pub fn into_node(self) -> CalleeNode
+        ensures { callee_of result ≡ self }
+    {
+        let Callee { node } = self;
+        node
+    }
 }
 
 impl Model for Form {
@@ -225,6 +322,19 @@ impl Model for Form {
     ghost size_decreases = { λ a h. Prim.omega (arith, form_falls a.node) };
 }
 
+impl Form {
+    ghost use Rattle.std.specs.Prelude.{◌≡◌};
+    ghost use Rattle.rust_ast.specs.SpelledView.{form_of};
+
+    /// The form, taken out.
+    pub fn into_node(self) -> FormNode
+        ensures { form_of result ≡ self }
+    {
+        let Form { node } = self;
+        node
+    }
+}
+
 impl Model for Place {
     ghost use Rattle.rust_ast.specs.Spelled.{Place, coded_place, nodes_place};
 
@@ -242,6 +352,19 @@ impl Model for Place {
     ghost use Rattle.rust_ast.specs.SpelledFalls.{place_falls};
 
     ghost size_decreases = { λ a h. Prim.omega (arith, place_falls a.node) };
+}
+
+impl Place {
+    ghost use Rattle.std.specs.Prelude.{◌≡◌};
+    ghost use Rattle.rust_ast.specs.SpelledView.{place_of};
+
+    /// The form, taken out.
+    pub fn into_node(self) -> PlaceNode
+        ensures { place_of result ≡ self }
+    {
+        let Place { node } = self;
+        node
+    }
 }
 
 impl Model for Scrutinee {
@@ -263,6 +386,19 @@ impl Model for Scrutinee {
     ghost size_decreases = { λ a h. Prim.omega (arith, scrutinee_falls a.node) };
 }
 
+impl Scrutinee {
+    ghost use Rattle.std.specs.Prelude.{◌≡◌};
+    ghost use Rattle.rust_ast.specs.SpelledView.{scrutinee_of};
+
+    /// The form, taken out.
+    pub fn into_node(self) -> ScrutineeNode
+        ensures { scrutinee_of result ≡ self }
+    {
+        let Scrutinee { node } = self;
+        node
+    }
+}
+
 impl Model for Stmt {
     ghost use Rattle.rust_ast.specs.Spelled.{Stmt, coded_stmt, nodes_stmt};
 
@@ -282,6 +418,19 @@ impl Model for Stmt {
     ghost size_decreases = { λ a h. Prim.omega (arith, stmt_falls a.node) };
 }
 
+impl Stmt {
+    ghost use Rattle.std.specs.Prelude.{◌≡◌};
+    ghost use Rattle.rust_ast.specs.SpelledView.{stmt_of};
+
+    /// The form, taken out.
+    pub fn into_node(self) -> StmtNode
+        ensures { stmt_of result ≡ self }
+    {
+        let Stmt { node } = self;
+        node
+    }
+}
+
 impl Model for Block {
     ghost use Rattle.rust_ast.specs.Spelled.{Block, coded_block, nodes_block};
 
@@ -299,4 +448,17 @@ impl Model for Block {
     ghost use Rattle.rust_ast.specs.SpelledFalls.{block_falls};
 
     ghost size_decreases = { λ a h. Prim.omega (arith, block_falls a.node) };
+}
+
+impl Block {
+    ghost use Rattle.std.specs.Prelude.{◌≡◌};
+    ghost use Rattle.rust_ast.specs.SpelledView.{block_of};
+
+    /// The form, taken out.
+    pub fn into_node(self) -> BlockNode
+        ensures { block_of result ≡ self }
+    {
+        let Block { node } = self;
+        node
+    }
 }

@@ -3,9 +3,14 @@ use aen_base::{Boxed, List, Num, Span, TypeId};
 use std::marker::Model;
 
 /// How a name takes what it meets.
-#[derive(Drop)]
 pub struct Mode {
     pub node: ModeNode,
+}
+
+impl Drop for Mode {
+    fn drop(self) {
+        let Mode { node: _ } = self;
+    }
 }
 
 /// The forms of `Mode`.
@@ -21,9 +26,23 @@ pub enum ModeNode {
 
 /// A pattern, with what it looks through and how its names bind.
 #[cycle(spelled_patterns)]
-#[derive(Drop)]
 pub struct Pat {
     pub node: PatNode,
+}
+
+impl Drop for Pat {
+    fn drop(self) {
+        let Pat { node } = self;
+        match node {
+            PatNode::Wild => {}
+            PatNode::Bind(_, _, _) => {}
+            PatNode::Number(_) => {}
+            PatNode::Truth(_) => {}
+            PatNode::Tuple(_tuple) => {}
+            PatNode::Construct(_, _, _construct) => {}
+            PatNode::Through(_, _) => {}
+        }
+    }
 }
 
 /// The forms of `Pat`.
@@ -58,6 +77,19 @@ impl Model for Mode {
     ghost view = { λ e. mode_of e.node };
 }
 
+impl Mode {
+    ghost use Rattle.std.specs.Prelude.{◌≡◌};
+    ghost use Rattle.rust_ast.specs.SpelledPatternsView.{mode_of};
+
+    /// The form, taken out.
+    pub fn into_node(self) -> ModeNode
+        ensures { mode_of result ≡ self }
+    {
+        let Mode { node } = self;
+        node
+    }
+}
+
 impl Model for Pat {
     ghost use Rattle.rust_ast.specs.SpelledPatterns.{Pat, coded_pat, nodes_pat};
 
@@ -75,4 +107,17 @@ impl Model for Pat {
     ghost use Rattle.rust_ast.specs.SpelledPatternsFalls.{pat_falls};
 
     ghost size_decreases = { λ a h. Prim.omega (arith, pat_falls a.node) };
+}
+
+impl Pat {
+    ghost use Rattle.std.specs.Prelude.{◌≡◌};
+    ghost use Rattle.rust_ast.specs.SpelledPatternsView.{pat_of};
+
+    /// The form, taken out.
+    pub fn into_node(self) -> PatNode
+        ensures { pat_of result ≡ self }
+    {
+        let Pat { node } = self;
+        node
+    }
 }

@@ -3,9 +3,14 @@ use aen_base::{Boxed, IntTy, List, Span, TypeId};
 use std::marker::Model;
 
 /// The lifetime of a reference type.
-#[derive(Drop)]
 pub struct Lifetime {
     pub node: LifetimeNode,
+}
+
+impl Drop for Lifetime {
+    fn drop(self) {
+        let Lifetime { node: _ } = self;
+    }
 }
 
 /// The forms of `Lifetime`.
@@ -20,9 +25,14 @@ pub enum LifetimeNode {
 }
 
 /// The lists of type arguments that stand in one path.
-#[derive(Drop)]
 pub struct Turbos {
     pub node: TurbosNode,
+}
+
+impl Drop for Turbos {
+    fn drop(self) {
+        let Turbos { node: _ } = self;
+    }
 }
 
 /// The forms of `Turbos`.
@@ -38,9 +48,24 @@ pub enum TurbosNode {
 
 /// A type as it is written. Each form begins with its span.
 #[cycle(written)]
-#[derive(Drop)]
 pub struct Written {
     pub node: WrittenNode,
+}
+
+impl Drop for Written {
+    fn drop(self) {
+        let Written { node } = self;
+        match node {
+            WrittenNode::Int(_, _) => {}
+            WrittenNode::Bool(_) => {}
+            WrittenNode::Unit(_) => {}
+            WrittenNode::Tuple(_, _tuple) => {}
+            WrittenNode::Ref(_, _, _, _) => {}
+            WrittenNode::Boxed(_, _) => {}
+            WrittenNode::Named(_, _, _named) => {}
+            WrittenNode::Param(_, _, _param) => {}
+        }
+    }
 }
 
 /// The forms of `Written`.
@@ -77,6 +102,19 @@ impl Model for Lifetime {
     ghost view = { λ e. lifetime_of e.node };
 }
 
+impl Lifetime {
+    ghost use Rattle.std.specs.Prelude.{◌≡◌};
+    ghost use Rattle.rust_ast.specs.WrittenView.{lifetime_of};
+
+    /// The form, taken out.
+    pub fn into_node(self) -> LifetimeNode
+        ensures { lifetime_of result ≡ self }
+    {
+        let Lifetime { node } = self;
+        node
+    }
+}
+
 impl Model for Turbos {
     ghost use Rattle.rust_ast.specs.Written.{Turbos, coded_turbos};
 
@@ -87,6 +125,19 @@ impl Model for Turbos {
     ghost use Rattle.rust_ast.specs.WrittenView.{turbos_of};
 
     ghost view = { λ e. turbos_of e.node };
+}
+
+impl Turbos {
+    ghost use Rattle.std.specs.Prelude.{◌≡◌};
+    ghost use Rattle.rust_ast.specs.WrittenView.{turbos_of};
+
+    /// The form, taken out.
+    pub fn into_node(self) -> TurbosNode
+        ensures { turbos_of result ≡ self }
+    {
+        let Turbos { node } = self;
+        node
+    }
 }
 
 impl Model for Written {
@@ -106,4 +157,17 @@ impl Model for Written {
     ghost use Rattle.rust_ast.specs.WrittenFalls.{written_falls};
 
     ghost size_decreases = { λ a h. Prim.omega (arith, written_falls a.node) };
+}
+
+impl Written {
+    ghost use Rattle.std.specs.Prelude.{◌≡◌};
+    ghost use Rattle.rust_ast.specs.WrittenView.{written_of};
+
+    /// The form, taken out.
+    pub fn into_node(self) -> WrittenNode
+        ensures { written_of result ≡ self }
+    {
+        let Written { node } = self;
+        node
+    }
 }

@@ -120,7 +120,7 @@ pub(crate) fn turbos(
 pub(crate) fn beside(first: Turbos, second: Turbos) -> Turbos
     ensures { result ≡ spec.beside first second }
 {
-    let node = match first.node {
+    let node = match first.into_node() {
         TurbosNode::NoTurbo => return second,
         TurbosNode::OneTurbo(types) => one_beside(types, second),
         TurbosNode::TwoTurbos(types, more) => TurbosNode::TwoTurbos(types, more),
@@ -132,7 +132,7 @@ pub(crate) fn beside(first: Turbos, second: Turbos) -> Turbos
 fn one_beside(types: List<Written>, second: Turbos) -> TurbosNode
     ensures { view.turbos_of result ≡ spec.beside (written.one_turbo (written.writtens types)) second }
 {
-    match second.node {
+    match second.into_node() {
         TurbosNode::NoTurbo => TurbosNode::OneTurbo(types),
         TurbosNode::OneTurbo(more) => TurbosNode::TwoTurbos(types, more),
         TurbosNode::TwoTurbos(_, _) => TurbosNode::OneTurbo(types),

@@ -226,7 +226,7 @@ fn minus_of(alloc: Global, whole: Span, e: Expr) -> Result<Expr, NoMem>
 fn negated(alloc: Global, whole: Span, operand: Span, e: Expr) -> Result<Expr, NoMem>
     ensures { IfOk result (λ it. it ≡ spec.negated whole operand e) }
 {
-    match e.node {
+    match e.into_node() {
         ExprNode::Number(span, false, size, suffix) => {
             if same_span(span, operand) {
                 return Ok(Expr {
