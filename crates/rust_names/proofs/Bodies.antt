@@ -17,13 +17,22 @@ use Rattle.rust_names.specs.Lookups.{and_then}
 use Rattle.rust_names.specs.PatternUses.{read_pat}
 use Rattle.rust_names.specs.Scopes.{State, enter, leave}
 use Rattle.rust_names.specs.TypeUses.{read_maybe_type}
-use Rattle.rust_names.specs.Uses.{Answer, read, read_maybe, read_stmts, read_stmt, read_block, under, two_arms, is_nothing}
+use Rattle.rust_names.specs.Uses.{Answer, read, read_maybe, read_stmt, both_read, within, under, in_block, two_arms, is_nothing}
+
+passes_to : {A B C D : Type 0} (f : C → A) (o : Result A Span) (k : D → B) (whole : Result B Span) (e : Stop) → GivesAs f o (Err e) → ((q : Span) → o ≡ Err q → whole ≡ Err q) → GivesAs k whole (Err e)
+passes_to f o k whole (Unknown q) g h = h q g
+passes_to f o k whole Memory g h = tt
 
 passes_by : {A B C : Type 0} (f : C → A) (o : Result A Span) (whole : Result B Span) (e : Stop) → GivesAs f o (Err e) → ((q : Span) → o ≡ Err q → whole ≡ Err q) → Gives {A = B} whole (Err e)
 passes_by f o whole (Unknown q) g h = h q g
 passes_by f o whole Memory g h = tt
 
 -- what stopped a step stops the whole
+pub passes_form : {A B C D : Type 0} (f : C → A) (o : Result A Span) (k : D → B) (whole : Result B Span) (x : Result D Stop) (e : Stop) → GivesAs f o (Err e) → IsErrAnd x (λ y. y ≡ e) →
+    ((q : Span) → o ≡ Err q → whole ≡ Err q) → GivesAs k whole x
+passes_form f o k whole (Ok y) e g d h = absurd d
+passes_form f o k whole (Err y) e g d h = subst (λ z. GivesAs k whole (Err z)) (sym d) (passes_to f o k whole e g h)
+
 pub passes_as : {A B C : Type 0} (f : C → A) (o : Result A Span) (whole : Result B Span) (x : Result B Stop) (e : Stop) → GivesAs f o (Err e) → IsErrAnd x (λ y. y ≡ e) →
     ((q : Span) → o ≡ Err q → whole ≡ Err q) → Gives whole x
 passes_as f o whole (Ok y) e g k h = absurd k
@@ -34,50 +43,60 @@ pub passes : {A B : Type 0} (o : Result A Span) (whole : Result B Span) (x : Res
 passes o whole x (Unknown q) g k h = passes_as (λ y. y) o whole x (Unknown q) g k h
 passes o whole x Memory g k h = passes_as (λ y. y) o whole x Memory tt k h
 
--- ---- an arm
-
-abbrev inside_of : ℕ → (State → Answer r.Expr) → p.Pat × State → Answer (p.Pat × r.Expr)
-inside_of n inside x = and_then (inside (enter n (length x.1.variables) x.1)) (λ a. Ok ((x.0, a.0), leave (length x.1.scope) a.1))
-
-abbrev arm_end : p.Pat × State → r.Expr × State → Answer (p.Pat × r.Expr)
-arm_end x a = Ok ((x.0, a.0), leave (length x.1.scope) a.1)
-
-entered_at : (n a b : ℕ) (st inner : State) → a ≡ n → b ≡ length st.variables → inner ≡ enter a b st → enter n (length st.variables) st ≡ inner
-entered_at n a b st inner f t e = (λ i. enter (sym f i) (sym t i) st) ∙ sym e
+-- ---- variables in scope, and an arm
 
 left_at : (count : ℕ) (st after out : State) → count ≡ length st.scope → out ≡ leave count after → leave (length st.scope) after ≡ out
 left_at count st after out c l = ap (λ n. leave n after) (sym c) ∙ sym l
 
-pub under_fails : (o : Answer p.Pat) (n a b : ℕ) (inside : State → Answer r.Expr) (x : p.Pat) (st inner : State) (q : Span) → o ≡ Ok (x, st) → a ≡ n → b ≡ length st.variables → inner ≡ enter a b st →
-    inside inner ≡ Err q → under o n inside ≡ Err q
-under_fails o n a b inside x st inner q h f t e k =
-    ap (λ z. and_then z (inside_of n inside)) h ∙ ap (λ z. and_then (inside z) (arm_end (x, st))) (entered_at n a b st inner f t e) ∙ ap (λ z. and_then z (arm_end (x, st))) k
+abbrev within_end : State → r.Expr × State → Answer r.Expr
+within_end st k = Ok (k.0, leave (length st.scope) k.1)
 
-pub under_gives : (o : Answer p.Pat) (n a b count : ℕ) (inside : State → Answer r.Expr) (x : p.Pat) (y : r.Expr) (st inner after out : State) → o ≡ Ok (x, st) → a ≡ n → b ≡ length st.variables →
-    inner ≡ enter a b st → inside inner ≡ Ok (y, after) → count ≡ length st.scope → out ≡ leave count after → under o n inside ≡ Ok ((x, y), out)
-under_gives o n a b count inside x y st inner after out h f t e k c l =
-    ap (λ z. and_then z (inside_of n inside)) h ∙ ap (λ z. and_then (inside z) (arm_end (x, st))) (entered_at n a b st inner f t e) ∙ ap (λ z. and_then z (arm_end (x, st))) k
-    ∙ ap (λ z. Ok ((x, y), z)) (left_at count st after out c l)
+pub within_fails : (a b : ℕ) (inside : State → Answer r.Expr) (st inner : State) (q : Span) → inner ≡ enter a b st → inside inner ≡ Err q → within a b inside st ≡ Err q
+within_fails a b inside st inner q e k = ap (λ z. and_then (inside z) (within_end st)) (sym e) ∙ ap (λ z. and_then z (within_end st)) k
+
+pub within_gives : (a b count : ℕ) (inside : State → Answer r.Expr) (y : r.Expr) (st inner after out : State) → count ≡ length st.scope → inner ≡ enter a b st → inside inner ≡ Ok (y, after) → out ≡ leave count after →
+    within a b inside st ≡ Ok (y, out)
+within_gives a b count inside y st inner after out c e k l =
+    ap (λ z. and_then (inside z) (within_end st)) (sym e) ∙ ap (λ z. and_then z (within_end st)) k ∙ ap (λ z. Ok (y, z)) (left_at count st after out c l)
+
+-- the numbers are those of the pattern's variables
+within_at : (n a b : ℕ) (inside : State → Answer r.Expr) (st st1 : State) → a ≡ n → b ≡ length st.variables → within n (length st.variables) inside st1 ≡ within a b inside st1
+within_at n a b inside st st1 f t = λ i. within (sym f i) (sym t i) inside st1
+
+abbrev arm_end : p.Pat → r.Expr × State → Answer (p.Pat × r.Expr)
+arm_end x a = Ok ((x, a.0), a.1)
+
+abbrev arm_inside : ℕ → (State → Answer r.Expr) → p.Pat × State → Answer (p.Pat × r.Expr)
+arm_inside n inside x = and_then (within n (length x.1.variables) inside x.1) (arm_end x.0)
+
+under_at : (o : Answer p.Pat) (n a b : ℕ) (inside : State → Answer r.Expr) (x : p.Pat) (st : State) → o ≡ Ok (x, st) → a ≡ n → b ≡ length st.variables → under o n inside ≡ and_then (within a b inside st) (arm_end x)
+under_at o n a b inside x st h f t = ap (λ z. and_then z (arm_inside n inside)) h ∙ ap (λ z. and_then z (arm_end x)) (within_at n a b inside st st f t)
+
+pub under_fails : (o : Answer p.Pat) (n a b : ℕ) (inside : State → Answer r.Expr) (x : p.Pat) (st : State) (q : Span) → o ≡ Ok (x, st) → a ≡ n → b ≡ length st.variables → within a b inside st ≡ Err q →
+    under o n inside ≡ Err q
+under_fails o n a b inside x st q h f t k = under_at o n a b inside x st h f t ∙ ap (λ z. and_then z (arm_end x)) k
+
+pub under_gives : (o : Answer p.Pat) (n a b : ℕ) (inside : State → Answer r.Expr) (x : p.Pat) (y : r.Expr) (st out : State) → o ≡ Ok (x, st) → a ≡ n → b ≡ length st.variables → within a b inside st ≡ Ok (y, out) →
+    under o n inside ≡ Ok ((x, y), out)
+under_gives o n a b inside x y st out h f t k = under_at o n a b inside x st h f t ∙ ap (λ z. and_then z (arm_end x)) k
+
+-- ---- a block
+
+abbrev block_end : ℕ → r.Stmts → r.MaybeExpr × State → Answer (r.Stmts × r.MaybeExpr)
+block_end n xs y = Ok ((xs, y.0), leave n y.1)
+
+abbrev block_last : ℕ → (State → Answer r.MaybeExpr) → r.Stmts × State → Answer (r.Stmts × r.MaybeExpr)
+block_last n next x = and_then (next x.1) (block_end n x.0)
+
+pub block_fails : (o : Answer r.Stmts) (next : State → Answer r.MaybeExpr) (n : ℕ) (st : State) (xs : r.Stmts) (e : Span) → o ≡ Ok (xs, st) → next st ≡ Err e → in_block o next n ≡ Err e
+block_fails o next n st xs e h k = ap (λ z. and_then z (block_last n next)) h ∙ ap (λ z. and_then z (block_end n xs)) k
+
+pub block_gives : (o : Answer r.Stmts) (next : State → Answer r.MaybeExpr) (n count : ℕ) (st after out : State) (xs : r.Stmts) (y : r.MaybeExpr) → o ≡ Ok (xs, st) → next st ≡ Ok (y, after) → count ≡ n → out ≡ leave count after →
+    in_block o next n ≡ Ok ((xs, y), out)
+block_gives o next n count st after out xs y h k c l =
+    ap (λ z. and_then z (block_last n next)) h ∙ ap (λ z. and_then z (block_end n xs)) k ∙ ap (λ z. Ok ((xs, y), z)) (ap (λ m. leave m after) (sym c) ∙ sym l)
 
 module _ (t : Tables) (g : Generics) where
-  -- ---- a block
-
-  abbrev block_end : Span → ℕ → r.Stmts → r.MaybeExpr × State → Answer r.Block
-  block_end q n xs y = Ok (r.block q xs y.0, leave n y.1)
-
-  abbrev block_last : Span → ℕ → s.MaybeExpr → r.Stmts × State → Answer r.Block
-  block_last q n o x = and_then (read_maybe t g o x.1) (block_end q n x.0)
-
-  pub block_fails : (q : Span) (ss : s.Stmts) (o : s.MaybeExpr) (st st1 : State) (xs : r.Stmts) (e : Span) → read_stmts t g ss st ≡ Ok (xs, st1) → read_maybe t g o st1 ≡ Err e →
-      read_block t g (s.block q ss o) st ≡ Err e
-  block_fails q ss o st st1 xs e h k =
-      ap (λ z. and_then z (block_last q (length st.scope) o)) h ∙ ap (λ z. and_then z (block_end q (length st.scope) xs)) k
-
-  pub block_gives : (q : Span) (ss : s.Stmts) (o : s.MaybeExpr) (count : ℕ) (st st1 st2 out : State) (xs : r.Stmts) (y : r.MaybeExpr) → read_stmts t g ss st ≡ Ok (xs, st1) →
-      read_maybe t g o st1 ≡ Ok (y, st2) → count ≡ length st.scope → out ≡ leave count st2 → read_block t g (s.block q ss o) st ≡ Ok (r.block q xs y, out)
-  block_gives q ss o count st st1 st2 out xs y h k c l =
-      ap (λ z. and_then z (block_last q (length st.scope) o)) h ∙ ap (λ z. and_then z (block_end q (length st.scope) xs)) k ∙ ap (λ z. Ok (r.block q xs y, z)) (left_at count st st2 out c l)
-
   -- ---- `let`
 
   abbrev let_end : Span → ℕ → p.Pat × State → w.MaybeWritten → r.MaybeExpr × State → Answer r.Stmt
@@ -111,17 +130,17 @@ module _ (t : Tables) (g : Generics) where
 
   -- ---- `if let`
 
-  abbrev branch_end : Span → p.Pat × State → r.Expr × State → r.Expr × State → r.Expr × State → Answer r.Expr
-  branch_end q y h k l = Ok (two_arms q h.0 y.0 k.0 l.0, l.1)
+  abbrev branch_end : Span → p.Pat → r.Expr → (r.Expr × r.Expr) × State → Answer r.Expr
+  branch_end q y h k = Ok (two_arms q h y k.0.0 k.0.1, k.1)
 
-  abbrev branch_no : Span → s.Expr → p.Pat × State → r.Expr × State → r.Expr × State → Answer r.Expr
-  branch_no q c y h k = and_then (read t g c (leave (length h.1.scope) k.1)) (branch_end q y h k)
+  abbrev chosen : ℕ → ℕ → s.Expr → s.Expr → State → Answer (r.Expr × r.Expr)
+  chosen m n b c st = both_read (within m n (read t g b) st) (read t g c)
 
-  abbrev branch_yes : Span → ℕ → s.Expr → s.Expr → p.Pat × State → r.Expr × State → Answer r.Expr
-  branch_yes q n b c y h = and_then (read t g b (enter n (length y.1.variables) h.1)) (branch_no q c y h)
+  abbrev branch_choice : Span → ℕ → s.Expr → s.Expr → p.Pat × State → r.Expr × State → Answer r.Expr
+  branch_choice q m b c y h = and_then (chosen m (length y.1.variables) b c h.1) (branch_end q y.0 h.0)
 
   abbrev branch_value : Span → ℕ → s.Expr → s.Expr → s.Expr → p.Pat × State → Answer r.Expr
-  branch_value q n a b c y = and_then (read t g a y.1) (branch_yes q n b c y)
+  branch_value q m a b c y = and_then (read t g a y.1) (branch_choice q m b c y)
 
   branch_pat : (q : Span) (x : sp.Pat) (a b c : s.Expr) (st st1 : State) (y : p.Pat) → read_pat t g false x st ≡ Ok (y, st1) →
       read t g (s.let_branch q x a b c) st ≡ branch_value q (length st.variables) a b c (y, st1)
@@ -129,34 +148,20 @@ module _ (t : Tables) (g : Generics) where
 
   pub branch_value_fails : (q : Span) (x : sp.Pat) (a b c : s.Expr) (st st1 : State) (y : p.Pat) (e : Span) → read_pat t g false x st ≡ Ok (y, st1) → read t g a st1 ≡ Err e →
       read t g (s.let_branch q x a b c) st ≡ Err e
-  branch_value_fails q x a b c st st1 y e h k = branch_pat q x a b c st st1 y h ∙ ap (λ z. and_then z (branch_yes q (length st.variables) b c (y, st1))) k
+  branch_value_fails q x a b c st st1 y e h k = branch_pat q x a b c st st1 y h ∙ ap (λ z. and_then z (branch_choice q (length st.variables) b c (y, st1))) k
 
-  branch_to_yes : (q : Span) (x : sp.Pat) (a b c : s.Expr) (m n : ℕ) (st st1 st2 inner : State) (y : p.Pat) (h : r.Expr) → read_pat t g false x st ≡ Ok (y, st1) → read t g a st1 ≡ Ok (h, st2) →
-      m ≡ length st.variables → n ≡ length st1.variables → inner ≡ enter m n st2 → read t g (s.let_branch q x a b c) st ≡ and_then (read t g b inner) (branch_no q c (y, st1) (h, st2))
-  branch_to_yes q x a b c m n st st1 st2 inner y h i k f e l =
-      branch_pat q x a b c st st1 y i ∙ ap (λ z. and_then z (branch_yes q (length st.variables) b c (y, st1))) k
-      ∙ ap (λ z. and_then (read t g b z) (branch_no q c (y, st1) (h, st2))) ((λ j. enter (sym f j) (sym e j) st2) ∙ sym l)
+  branch_to_choice : (q : Span) (x : sp.Pat) (a b c : s.Expr) (m n : ℕ) (st st1 st2 : State) (y : p.Pat) (h : r.Expr) → read_pat t g false x st ≡ Ok (y, st1) → read t g a st1 ≡ Ok (h, st2) →
+      m ≡ length st.variables → n ≡ length st1.variables → read t g (s.let_branch q x a b c) st ≡ and_then (chosen m n b c st2) (branch_end q y h)
+  branch_to_choice q x a b c m n st st1 st2 y h i k f e =
+      branch_pat q x a b c st st1 y i ∙ ap (λ z. and_then z (branch_choice q (length st.variables) b c (y, st1))) k
+      ∙ (λ j. and_then (chosen (sym f j) (sym e j) b c st2) (branch_end q y h))
 
-  pub branch_yes_fails : (q : Span) (x : sp.Pat) (a b c : s.Expr) (m n : ℕ) (st st1 st2 inner : State) (y : p.Pat) (h : r.Expr) (o : Span) → read_pat t g false x st ≡ Ok (y, st1) → read t g a st1 ≡ Ok (h, st2) →
-      m ≡ length st.variables → n ≡ length st1.variables → inner ≡ enter m n st2 → read t g b inner ≡ Err o → read t g (s.let_branch q x a b c) st ≡ Err o
-  branch_yes_fails q x a b c m n st st1 st2 inner y h o i k f e l d =
-      branch_to_yes q x a b c m n st st1 st2 inner y h i k f e l ∙ ap (λ z. and_then z (branch_no q c (y, st1) (h, st2))) d
+  pub branch_choice_fails : (q : Span) (x : sp.Pat) (a b c : s.Expr) (m n : ℕ) (st st1 st2 : State) (y : p.Pat) (h : r.Expr) (o : Span) → read_pat t g false x st ≡ Ok (y, st1) → read t g a st1 ≡ Ok (h, st2) →
+      m ≡ length st.variables → n ≡ length st1.variables → both_read (within m n (read t g b) st2) (read t g c) ≡ Err o → read t g (s.let_branch q x a b c) st ≡ Err o
+  branch_choice_fails q x a b c m n st st1 st2 y h o i k f e d =
+      branch_to_choice q x a b c m n st st1 st2 y h i k f e ∙ ap (λ z. and_then z (branch_end q y h)) d
 
-  branch_to_no : (q : Span) (x : sp.Pat) (a b c : s.Expr) (m n count : ℕ) (st st1 st2 inner st3 outer : State) (y : p.Pat) (h k : r.Expr) → read_pat t g false x st ≡ Ok (y, st1) → read t g a st1 ≡ Ok (h, st2) →
-      m ≡ length st.variables → n ≡ length st1.variables → inner ≡ enter m n st2 → read t g b inner ≡ Ok (k, st3) → count ≡ length st2.scope → outer ≡ leave count st3 →
-      read t g (s.let_branch q x a b c) st ≡ and_then (read t g c outer) (branch_end q (y, st1) (h, st2) (k, st3))
-  branch_to_no q x a b c m n count st st1 st2 inner st3 outer y h k i j f e l d o u =
-      branch_to_yes q x a b c m n st st1 st2 inner y h i j f e l ∙ ap (λ z. and_then z (branch_no q c (y, st1) (h, st2))) d
-      ∙ ap (λ z. and_then (read t g c z) (branch_end q (y, st1) (h, st2) (k, st3))) (left_at count st2 st3 outer o u)
-
-  pub branch_no_fails : (q : Span) (x : sp.Pat) (a b c : s.Expr) (m n count : ℕ) (st st1 st2 inner st3 outer : State) (y : p.Pat) (h k : r.Expr) (v : Span) → read_pat t g false x st ≡ Ok (y, st1) →
-      read t g a st1 ≡ Ok (h, st2) → m ≡ length st.variables → n ≡ length st1.variables → inner ≡ enter m n st2 → read t g b inner ≡ Ok (k, st3) → count ≡ length st2.scope → outer ≡ leave count st3 →
-      read t g c outer ≡ Err v → read t g (s.let_branch q x a b c) st ≡ Err v
-  branch_no_fails q x a b c m n count st st1 st2 inner st3 outer y h k v i j f e l d o u z =
-      branch_to_no q x a b c m n count st st1 st2 inner st3 outer y h k i j f e l d o u ∙ ap (λ a. and_then a (branch_end q (y, st1) (h, st2) (k, st3))) z
-
-  pub branch_gives : (q : Span) (x : sp.Pat) (a b c : s.Expr) (m n count : ℕ) (st st1 st2 inner st3 outer st4 : State) (y : p.Pat) (h k v : r.Expr) → read_pat t g false x st ≡ Ok (y, st1) →
-      read t g a st1 ≡ Ok (h, st2) → m ≡ length st.variables → n ≡ length st1.variables → inner ≡ enter m n st2 → read t g b inner ≡ Ok (k, st3) → count ≡ length st2.scope → outer ≡ leave count st3 →
-      read t g c outer ≡ Ok (v, st4) → read t g (s.let_branch q x a b c) st ≡ Ok (two_arms q h y k v, st4)
-  branch_gives q x a b c m n count st st1 st2 inner st3 outer st4 y h k v i j f e l d o u z =
-      branch_to_no q x a b c m n count st st1 st2 inner st3 outer y h k i j f e l d o u ∙ ap (λ a. and_then a (branch_end q (y, st1) (h, st2) (k, st3))) z
+  pub branch_gives : (q : Span) (x : sp.Pat) (a b c : s.Expr) (m n : ℕ) (st st1 st2 last : State) (y : p.Pat) (h yes no : r.Expr) → read_pat t g false x st ≡ Ok (y, st1) → read t g a st1 ≡ Ok (h, st2) →
+      m ≡ length st.variables → n ≡ length st1.variables → both_read (within m n (read t g b) st2) (read t g c) ≡ Ok ((yes, no), last) → read t g (s.let_branch q x a b c) st ≡ Ok (two_arms q h y yes no, last)
+  branch_gives q x a b c m n st st1 st2 last y h yes no i k f e d =
+      branch_to_choice q x a b c m n st st1 st2 y h i k f e ∙ ap (λ z. and_then z (branch_end q y h)) d

@@ -6,9 +6,6 @@ use Rattle.std.proofs.lemmas.List.{append-nil}
 use Rattle.std.proofs.lemmas.Slice.Eq.{bytes_eq-Decides}
 use Rattle.std.specs.Prelude.{◌&&◌, ◌||◌, if◌then◌else◌, nat_lt, bytes_eq}
 use Rattle.aen_base.specs.declared.span.Span.{Span}
-use Rattle.rust_ast.specs.Resolved as r
-use Rattle.rust_ast.specs.SourceTypes as types
-use Rattle.rust_ast.specs.Written as w
 use Rattle.rust_ast.specs.declared.program.Program.{Program}
 use Rattle.rust_ast.specs.declared.program.Function as functions
 use Rattle.rust_ast.specs.declared.program.Struct as structs
@@ -27,12 +24,9 @@ use Rattle.rust_names.specs.declared.tables.Tables.{Tables}
 use Rattle.rust_names.specs.declared.tables.ValueNames.{ValueNames}
 use Rattle.rust_names.specs.Finding.{or_else}
 use Rattle.rust_names.specs.Lookups.{and_then}
-use Rattle.rust_names.specs.Scopes.{State}
-use Rattle.rust_names.specs.Tables.{names_of, tables_of}
-use Rattle.rust_names.specs.TypeUses.{read_maybe_type}
-use Rattle.rust_names.specs.Uses.{read_block}
+use Rattle.rust_names.specs.Tables.{tables_of}
 use Rattle.rust_names.specs.Twice.{Pair, with_second, must_differ, first_like, repeated, repeated_parameter, twice_own, twice_inside, own_entry, item_lifetimes, twice_in_item, twice_in_items, with_entries, entry, entries, item_parameters, twice}
-use Rattle.rust_names.specs.Resolution.{function_generics, beginning, read_params, read_function, read_struct, read_enum, read_item, read_items, with_function, with_type, no_items, count_functions, has_many, variables_within, unless_twice, resolution}
+use Rattle.rust_names.specs.Resolution.{function_generics, function_parts, function_of, read_function, read_struct, read_enum, read_item, read_items, with_function, with_type, no_items, count_functions, has_many, variables_within, unless_twice, resolution}
 
 -- P holds of each item
 abbrev pub Each : {A : Type 0} → (A → Type 0) → List A → Type 0
@@ -78,30 +72,9 @@ name_after : {X : Type 0} (o : Result X Span) (make : X → resolved.Function) (
 name_after (Ok x) make w g is h = subst (λ (q : resolved.Function). q.name ≡ w) (same_ok _ (make x) g refl h) (is x)
 name_after (Err s) make w g is h = absurd cc
 
-abbrev whole : functions.Function → List w.Written → w.MaybeWritten → r.Block × State → resolved.Function
-whole f xs y b = record {
-  name = f.name.name;
-  span = f.name.span;
-  lifetimes = names_of f.lifetimes;
-  type_params = names_of f.type_params;
-  params = xs;
-  result = w.maybewritten_option y;
-  variables = b.1.variables;
-  body = b.0;
-}
-
-abbrev with_result : Tables → functions.Function → List w.Written → w.MaybeWritten → Result resolved.Function Span
-with_result t f xs y = and_then (read_block t (function_generics f) f.body (beginning f.params)) (λ b. Ok (whole f xs y b))
-
-abbrev with_params : Tables → functions.Function → List w.Written → Result resolved.Function Span
-with_params t f xs = and_then (read_maybe_type t (function_generics f) (types.maybewritten f.result)) (with_result t f xs)
-
 function_name : (t : Tables) (f : functions.Function) (g : resolved.Function) → read_function t f ≡ Ok g → g.name ≡ f.name.name
 unfolding read_function
-function_name t f g h =
-    let (xs, a, h2) = after (read_params t (function_generics f) f.params) (with_params t f) g h in
-    let (y, b, h3) = after (read_maybe_type t (function_generics f) (types.maybewritten f.result)) (with_result t f xs) g h2 in
-    name_after (read_block t (function_generics f) f.body (beginning f.params)) (whole f xs y) f.name.name g (λ x. refl) h3
+function_name t f g h = name_after (function_parts t (function_generics f) f) (function_of f) f.name.name g (λ x. refl) h
 
 names_push : (fs : List resolved.Function) (g : resolved.Function) (w : List ℕ) (ws : List (List ℕ)) → g.name ≡ w →
     function_names (fs ++ g ∷ []) ++ ws ≡ function_names fs ++ w ∷ ws

@@ -1,9 +1,10 @@
 -- A program with names resolved, or the first fault of its names (LANGUAGE.md, "Names", "Limits").
-use Rattle.std.specs.Prelude.{ℕ, suc, Bool, true, false, ◌||◌, if◌then◌else◌, List, [], ◌∷◌, ◌++◌, length, map, Some, None, Result, Ok, Err, nat_lt, decimal}
+use Rattle.std.specs.Prelude.{ℕ, suc, Bool, true, false, ◌||◌, if◌then◌else◌, List, [], ◌∷◌, ◌++◌, length, map, Option, Some, None, Result, Ok, Err, nat_lt, decimal}
 use Rattle.aen_base.specs.declared.span.Span.{Span}
 use Rattle.aen_base.specs.declared.limits.Which.TheVariants.{Functions, Variables}
 use Rattle.rust_ast.specs.SourceTypes as s
 use Rattle.rust_ast.specs.Written as w
+use Rattle.rust_ast.specs.Resolved as r
 use Rattle.rust_ast.specs.declared.ident.Ident.{Ident}
 use Rattle.rust_ast.specs.declared.program.Program.{Program}
 use Rattle.rust_ast.specs.declared.program.Param.{Param}
@@ -96,22 +97,41 @@ beginning xs = enter 0 (length (param_variables xs)) (record { scope = []; varia
 abbrev pub function_generics : functions.Function → Generics
 function_generics f = record { lifetimes = names_of f.lifetimes; type_params = names_of f.type_params }
 
--- the types of the parameters and of the result, then the body
+-- the types of the parameters and of the result
+abbrev pub function_types : Tables → Generics → functions.Function → Result (List w.Written × w.MaybeWritten) Span
+function_types t g f =
+    and_then (read_params t g f.params) (λ xs.
+    and_then (read_maybe_type t g (s.maybewritten f.result)) (λ y. Ok (xs, y)))
+
+-- as code has them
+abbrev pub types_form : List w.Written × Option w.Written → List w.Written × w.MaybeWritten
+types_form x = (x.0, w.maybewritten x.1)
+
+-- the body, with all variables
+abbrev pub function_body : Tables → Generics → functions.Function → Result (r.Block × List Variable) Span
+function_body t g f = and_then (read_block t g f.body (beginning f.params)) (λ b. Ok (b.0, b.1.variables))
+
+-- the types, then the body
+abbrev pub function_parts : Tables → Generics → functions.Function → Result ((List w.Written × w.MaybeWritten) × (r.Block × List Variable)) Span
+function_parts t g f = and_then (function_types t g f) (λ x. and_then (function_body t g f) (λ b. Ok (x, b)))
+
+abbrev pub parts_form : (List w.Written × Option w.Written) × (r.Block × List Variable) → (List w.Written × w.MaybeWritten) × (r.Block × List Variable)
+parts_form x = (types_form x.0, x.1)
+
+abbrev pub function_of : functions.Function → (List w.Written × w.MaybeWritten) × (r.Block × List Variable) → resolved.Function
+function_of f x = record {
+  name = f.name.name;
+  span = f.name.span;
+  lifetimes = names_of f.lifetimes;
+  type_params = names_of f.type_params;
+  params = x.0.0;
+  result = w.maybewritten_option x.0.1;
+  variables = x.1.1;
+  body = x.1.0;
+}
+
 unfoldable pub read_function : Tables → functions.Function → Result resolved.Function Span
-read_function t f =
-    and_then (read_params t (function_generics f) f.params) (λ xs.
-    and_then (read_maybe_type t (function_generics f) (s.maybewritten f.result)) (λ y.
-    and_then (read_block t (function_generics f) f.body (beginning f.params)) (λ b.
-    Ok (record {
-      name = f.name.name;
-      span = f.name.span;
-      lifetimes = names_of f.lifetimes;
-      type_params = names_of f.type_params;
-      params = xs;
-      result = w.maybewritten_option y;
-      variables = b.1.variables;
-      body = b.0;
-    }))))
+read_function t f = and_then (function_parts t (function_generics f) f) (λ x. Ok (function_of f x))
 
 -- ---- programs
 

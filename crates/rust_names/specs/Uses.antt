@@ -1,6 +1,6 @@
 -- Expressions, statements and blocks with names resolved: uses are looked up, and variables and loops
 -- numbered, in source order (LANGUAGE.md, "Names").
-use Rattle.std.specs.Prelude.{ℕ, Bool, true, false, List, length, Result, Ok}
+use Rattle.std.specs.Prelude.{ℕ, Bool, true, false, List, length, Option, Result, Ok}
 use Rattle.aen_base.specs.declared.span.Span.{Span}
 use Rattle.rust_ast.specs.Source as s
 use Rattle.rust_ast.specs.Patterns as p
@@ -31,10 +31,21 @@ with_two make o = and_then o (λ a. Ok (make a.0.0 a.0.1, a.1))
 abbrev pub with_name : Span → List ℕ → Answer r.Expr → Answer (Span × List ℕ × r.Expr)
 with_name q n o = and_then o (λ x. Ok ((q, n, x.0), x.1))
 
+-- what is read where the variables from number `a` to before number `b` are in scope, which leave it behind it
+abbrev pub within : ℕ → ℕ → (State → Answer r.Expr) → State → Answer r.Expr
+within a b inside st = and_then (inside (enter a b st)) (λ k. Ok (k.0, leave (length st.scope) k.1))
+
 -- a pattern whose names are in scope where `inside` is read, and not after it
 abbrev pub under : Answer p.Pat → ℕ → (State → Answer r.Expr) → Answer (p.Pat × r.Expr)
-under o n inside =
-    and_then o (λ x. and_then (inside (enter n (length x.1.variables) x.1)) (λ a. Ok ((x.0, a.0), leave (length x.1.scope) a.1)))
+under o n inside = and_then o (λ x. and_then (within n (length x.1.variables) inside x.1) (λ a. Ok ((x.0, a.0), a.1)))
+
+-- statements and a last expression; what came into scope since it had this length leaves it
+abbrev pub in_block : Answer r.Stmts → (State → Answer r.MaybeExpr) → ℕ → Answer (r.Stmts × r.MaybeExpr)
+in_block o next n = and_then o (λ x. and_then (next x.1) (λ y. Ok ((x.0, y.0), leave n y.1)))
+
+-- as code has them
+abbrev pub block_form : List r.Stmt × Option r.Expr → r.Stmts × r.MaybeExpr
+block_form b = (r.stmts b.0, r.maybeexpr b.1)
 
 abbrev pub two_arms : Span → r.Expr → p.Pat → r.Expr → r.Expr → r.Expr
 two_arms q a x b c = r.select q a (r.more_arms x b (r.more_arms (p.wild q) c r.no_arms))
@@ -60,8 +71,8 @@ abbrev mutual
   read t g (s.let_branch q x a b c) st =
       and_then (read_pat t g false x st) (λ y.
       and_then (read t g a y.1) (λ h.
-      and_then (read t g b (enter (length st.variables) (length y.1.variables) h.1)) (λ k.
-      and_then (read t g c (leave (length h.1.scope) k.1)) (λ l. Ok (two_arms q h.0 y.0 k.0 l.0, l.1)))))
+      and_then (both_read (within (length st.variables) (length y.1.variables) (read t g b) h.1) (read t g c)) (λ k.
+      Ok (two_arms q h.0 y.0 k.0.0 k.0.1, k.1))))
   read t g (s.forever q m b) st = and_then (read_block t g b (with_loop st)) (λ a. Ok (r.forever q st.loops m a.0, a.1))
   read t g (s.panic q) st = Ok (r.panic q, st)
   read t g (s.path q x) st = and_then (value_path t g st.scope q x) (λ a. Ok (a, st))
@@ -114,8 +125,7 @@ abbrev mutual
   -- what a block's statements bring into scope leaves it with the block
   pub read_block : Tables → Generics → s.Block → State → Answer r.Block
   read_block t g (s.block q ss o) st =
-      and_then (read_stmts t g ss st) (λ x.
-      and_then (read_maybe t g o x.1) (λ y. Ok (r.block q x.0 y.0, leave (length st.scope) y.1)))
+      and_then (in_block (read_stmts t g ss st) (read_maybe t g o) (length st.scope)) (λ x. Ok (r.block q x.0.0 x.0.1, x.1))
 
   pub read_stmts : Tables → Generics → s.Stmts → State → Answer r.Stmts
   read_stmts t g s.no_stmts st = Ok (r.no_stmts, st)

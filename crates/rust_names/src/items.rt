@@ -1,8 +1,9 @@
 //! Items with names resolved.
 
 ghost use Rattle.std.specs.Prelude.{◌≡◌, decimal, IfOk};
-ghost use Rattle.rust_names.specs.Gives.{Gives};
+ghost use Rattle.rust_names.specs.Gives.{Gives, GivesAs};
 ghost use Rattle.rust_names.specs.Resolution as spec;
+ghost use Rattle.rust_names.specs.Tables as declared;
 
 use crate::by_name::ByName;
 use crate::fault::Stop;
@@ -15,6 +16,7 @@ use crate::uses::resolve_block;
 use aen_base::{List, Name, NoMem, Span};
 use rust_ast::program::{self, Enum, Fields, Item, Param, Struct, Variant};
 use rust_ast::resolution::{Declared, Function, Resolved, Variable};
+use rust_ast::resolved::Block;
 use rust_ast::written::Written;
 use rust_ast::{Ident, source_types};
 use std::alloc::Global;
@@ -260,19 +262,82 @@ fn beginning(alloc: Global, params: &[Param]) -> Result<State, NoMem>
     state.enter(alloc, 0, count)
 }
 
+/// The types of a function's parameters and of its result.
+fn function_types(
+    alloc: Global,
+    tables: &Tables,
+    generics: &Generics,
+    f: &program::Function,
+) -> Result<(List<Written>, Option<Written>), Stop>
+    ensures { GivesAs spec.types_form (spec.function_types tables.now generics.now f.now) result }
+{
+    let params = param_types(alloc, tables, generics, f.params.as_slice())?;
+    let result = resolve_maybe_type(alloc, tables, generics, &f.result)?;
+    Ok((params, result))
+}
+
+/// The body of a function, with all its variables.
+fn function_body(
+    alloc: Global,
+    tables: &Tables,
+    generics: &Generics,
+    f: &program::Function,
+) -> Result<(Block, List<Variable>), Stop>
+    ensures { Gives (spec.function_body tables.now generics.now f.now) result }
+{
+    let start = beginning(alloc, f.params.as_slice())?;
+    let (body, after) = resolve_block(alloc, tables, generics, &f.body, start)?;
+    Ok((body, after.into_variables()))
+}
+
+/// The types of a function, and its body.
+fn typed_body(
+    alloc: Global,
+    tables: &Tables,
+    generics: &Generics,
+    f: &program::Function,
+) -> Result<((List<Written>, Option<Written>), (Block, List<Variable>)), Stop>
+    ensures { GivesAs spec.parts_form (spec.function_parts tables.now generics.now f.now) result }
+{
+    let types = function_types(alloc, tables, generics, f)?;
+    let body = function_body(alloc, tables, generics, f)?;
+    Ok((types, body))
+}
+
+/// The same with the function's lifetimes and type parameters.
+fn function_parts(
+    alloc: Global,
+    tables: &Tables,
+    f: &program::Function,
+) -> Result<((List<Written>, Option<Written>), (Block, List<Variable>)), Stop>
+    ensures { GivesAs spec.parts_form (spec.function_parts tables.now (spec.function_generics f.now) f.now) result }
+{
+    let generics = function_generics(alloc, f)?;
+    typed_body(alloc, tables, &generics, f)
+}
+
+/// The name of a function, of its lifetimes and of its type parameters. The only error is want of memory.
+fn function_names(
+    alloc: Global,
+    f: &program::Function,
+) -> Result<(Name, List<Name>, List<Name>), NoMem>
+    ensures own { IfOk result (λ n. n.0 ≡ f.now.name.name) }
+    ensures lifetimes { IfOk result (λ n. n.1 ≡ declared.names_of f.now.lifetimes) }
+    ensures type_params { IfOk result (λ n. n.2 ≡ declared.names_of f.now.type_params) }
+{
+    let name = f.name.name.try_clone(alloc)?;
+    let lifetimes = names_of(alloc, f.lifetimes.as_slice())?;
+    let type_params = names_of(alloc, f.type_params.as_slice())?;
+    Ok((name, lifetimes, type_params))
+}
+
 /// A function.
 #[tactic(auto, unfolding(crate::specs::Resolution::read_function))]
 fn resolve_function(alloc: Global, tables: &Tables, f: &program::Function) -> Result<Function, Stop>
     ensures { Gives (spec.read_function tables.now f.now) result }
 {
-    let generics = function_generics(alloc, f)?;
-    let name = f.name.name.try_clone(alloc)?;
-    let lifetimes = names_of(alloc, f.lifetimes.as_slice())?;
-    let type_params = names_of(alloc, f.type_params.as_slice())?;
-    let start = beginning(alloc, f.params.as_slice())?;
-    let params = param_types(alloc, tables, &generics, f.params.as_slice())?;
-    let result = resolve_maybe_type(alloc, tables, &generics, &f.result)?;
-    let (body, after) = resolve_block(alloc, tables, &generics, &f.body, start)?;
+    let (name, lifetimes, type_params) = function_names(alloc, f)?;
+    let ((params, result), (body, variables)) = function_parts(alloc, tables, f)?;
     Ok(Function {
         name,
         span: f.name.span,
@@ -280,7 +345,7 @@ fn resolve_function(alloc: Global, tables: &Tables, f: &program::Function) -> Re
         type_params,
         params,
         result,
-        variables: after.variables,
+        variables,
         body,
     })
 }

@@ -8,6 +8,7 @@ mod entry;
 mod fault;
 mod gathering;
 mod items;
+mod let_parts;
 mod lookups;
 mod path_uses;
 mod pattern_uses;

@@ -19,11 +19,16 @@ pub(crate) struct InScope {
 }
 
 /// The names in scope with their variables, the newest last: contracts see the list of them.
-#[derive(Drop)]
 pub(crate) struct Scope {
     names: List<InScope>,
     /// The newest variable of each name.
     table: IndexMap<Name, Option<u32>>,
+}
+
+impl Drop for Scope {
+    fn drop(self) {
+        let Scope { names: _, table: _ } = self;
+    }
 }
 
 impl Model for Scope {

@@ -10,7 +10,6 @@ use rust_ast::{Ident, Variable};
 use std::alloc::Global;
 
 /// What is known where a part of a body stands.
-#[derive(Drop)]
 pub struct State {
     /// The names in scope with their variables, the newest last.
     pub(crate) scope: Scope,
@@ -20,7 +19,30 @@ pub struct State {
     pub(crate) loops: u32,
 }
 
+/// By hand, as a derived `drop` is written out at each `?`.
+impl Drop for State {
+    fn drop(self) {
+        let State {
+            scope: _,
+            variables: _,
+            loops: _,
+        } = self;
+    }
+}
+
 impl State {
+    /// The function's variables.
+    pub(crate) fn into_variables(self) -> List<Variable>
+        ensures { result ≡ self.variables }
+    {
+        let State {
+            scope: _,
+            variables,
+            loops: _,
+        } = self;
+        variables
+    }
+
     /// One variable more, which is not in scope yet.
     pub(crate) fn with_variable(
         self,

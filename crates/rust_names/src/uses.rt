@@ -1,25 +1,26 @@
 //! Expressions, statements and blocks with names resolved.
 
-ghost use Rattle.std.specs.Prelude.{◌≡◌, false, length, IfOk};
+ghost use Rattle.std.specs.Prelude.{false, length};
 ghost use Rattle.rust_ast.specs.Resolved as resolved;
 ghost use Rattle.rust_ast.specs.Source as source;
 ghost use Rattle.rust_ast.specs.SourceTypes as types;
 ghost use Rattle.rust_names.specs.Gives.{Gives, GivesAs};
-ghost use Rattle.rust_names.specs.PatternUses as patterns;
+ghost use Rattle.rust_names.specs.PatternUses as pattern_uses;
 ghost use Rattle.rust_names.specs.Uses as spec;
 ghost use Rattle.rust_names.specs.Walks.{in_form};
 
 use crate::fault::Stop;
+use crate::let_parts::{Let, LetBranch, is_nothing, two_arms};
 use crate::lookups::struct_of;
 use crate::path_uses::{called_path, value_path};
 use crate::pattern_uses::resolve_pat;
 use crate::state::State;
 use crate::tables::{Generics, Tables};
 use crate::type_uses::{beside, resolve_maybe_type, turbos};
-use aen_base::{Boxed, List, Name, NoMem, Span};
-use rust_ast::patterns::{Pat, PatNode};
+use aen_base::{Boxed, List, Name, Span};
+use rust_ast::patterns::Pat;
 use rust_ast::resolved::{Block, BlockNode, Expr, ExprNode, Stmt, StmtNode};
-use rust_ast::{source, source_patterns, source_types};
+use rust_ast::{source, source_patterns};
 use std::alloc::Global;
 
 /// An expression with names resolved, and what is known after it.
@@ -66,10 +67,13 @@ pub(crate) fn resolve_expr(
             Ok((Expr { node }, state))
         }
         source::ExprNode::LetBranch(span, pat, a, b, c) => {
-            let value = a.get();
-            let yes = b.get();
-            let no = c.get();
-            Ok(let_branch(alloc, tables, generics, *span, pat, value, yes, no, state)?)
+            let parts = LetBranch {
+                pat,
+                value: a.get(),
+                matched: b.get(),
+                other: c.get(),
+            };
+            Ok(let_branch(alloc, tables, generics, *span, &parts, state)?)
         }
         source::ExprNode::Forever(span, is_while, body) => {
             let number = state.loops;
@@ -89,13 +93,8 @@ pub(crate) fn resolve_expr(
         source::ExprNode::Call(span, path, turbo, arguments) => {
             let called = called_path(alloc, tables, generics, path)?;
             let turbo = turbos(alloc, tables, generics, turbo)?;
-            let (arguments, state) = resolve_all(
-                alloc,
-                tables,
-                generics,
-                arguments.as_slice(),
-                state,
-            )?;
+            let arguments = arguments.as_slice();
+            let (arguments, state) = resolve_all(alloc, tables, generics, arguments, state)?;
             let turbos = beside(called.turbos, turbo);
             let node = ExprNode::Call(*span, called.callee, turbos, arguments);
             Ok((Expr { node }, state))
@@ -259,47 +258,54 @@ fn let_branch(
     tables: &Tables,
     generics: &Generics,
     span: Span,
-    pat: &source_patterns::Pat,
-    value: &source::Expr,
-    matched: &source::Expr,
-    other: &source::Expr,
+    parts: &LetBranch,
     state: State,
 ) -> Result<(Expr, State), Stop>
-    ensures { Gives (spec.read tables.now generics.now (source.let_branch span pat.now value.now matched.now other.now) state) result }
+    ensures { Gives (spec.read tables.now generics.now (source.let_branch span parts.now.pat.now parts.now.value.now parts.now.matched.now parts.now.other.now) state) result }
 {
     let from = state.variables.len();
-    let (pat, bound) = resolve_pat(alloc, tables, generics, false, pat, state)?;
+    let (pat, bound) = resolve_pat(alloc, tables, generics, false, parts.pat, state)?;
     let to = bound.variables.len();
-    let (scrutinee, known) = one(alloc, tables, generics, value, bound)?;
-    let count = known.scope.len();
-    let inner = known.enter(alloc, from, to)?;
-    let (matched, after) = resolve_expr(alloc, tables, generics, matched, inner)?;
-    let outer = after.leave(count)?;
-    let (other, last) = resolve_expr(alloc, tables, generics, other, outer)?;
-    let select = two_arms(alloc, span, scrutinee, pat, matched, other)?;
+    let (scrutinee, known) = one(alloc, tables, generics, parts.value, bound)?;
+    let ((yes, no), last) = choice(alloc, tables, generics, (from, to), parts, known)?;
+    let select = two_arms(alloc, span, scrutinee, pat, yes, no)?;
     Ok((select, last))
 }
 
-/// An `if let`: a `match` with the pattern's arm, and that of any other value.
-fn two_arms(
+/// What an `if let` may come to: the one where the pattern's names are in scope, the other behind it.
+#[cycle(uses)]
+fn choice(
     alloc: Global,
-    span: Span,
-    scrutinee: Boxed<Expr>,
-    pat: Pat,
-    yes: Expr,
-    no: Expr,
-) -> Result<Expr, NoMem>
-    ensures { IfOk result (λ e. e ≡ spec.two_arms span scrutinee pat yes no) }
+    tables: &Tables,
+    generics: &Generics,
+    names: (usize, usize),
+    parts: &LetBranch,
+    state: State,
+) -> Result<((Expr, Expr), State), Stop>
+    ensures { Gives (spec.both_read (spec.within names.0 names.1 (spec.read tables.now generics.now parts.now.matched.now) state) (spec.read tables.now generics.now parts.now.other.now)) result }
 {
-    let wild = Pat {
-        node: PatNode::Wild(span),
-    };
-    let mut arms = List::new(alloc);
-    arms.push((pat, yes))?;
-    arms.push((wild, no))?;
-    Ok(Expr {
-        node: ExprNode::Select(span, scrutinee, arms),
-    })
+    let (yes, outer) = within(alloc, tables, generics, names, parts.matched, state)?;
+    let (no, last) = resolve_expr(alloc, tables, generics, parts.other, outer)?;
+    Ok(((yes, no), last))
+}
+
+/// An expression where the variables from one number to before another are in scope.
+#[cycle(uses)]
+fn within(
+    alloc: Global,
+    tables: &Tables,
+    generics: &Generics,
+    names: (usize, usize),
+    body: &source::Expr,
+    state: State,
+) -> Result<(Expr, State), Stop>
+    ensures { Gives (spec.within names.0 names.1 (spec.read tables.now generics.now body.now) state) result }
+{
+    let count = state.scope.len();
+    let inner = state.enter(alloc, names.0, names.1)?;
+    let (body, after) = resolve_expr(alloc, tables, generics, body, inner)?;
+    let outer = after.leave(count)?;
+    Ok((body, outer))
 }
 
 /// Expressions from left to right.
@@ -368,15 +374,13 @@ fn resolve_arm(
     arm: &(source_patterns::Pat, source::Expr),
     state: State,
 ) -> Result<((Pat, Expr), State), Stop>
-    ensures { Gives (spec.under (patterns.read_pat tables.now generics.now false arm.now.0 state) (length state.variables) (spec.read tables.now generics.now arm.now.1)) result }
+    ensures { Gives (spec.under (pattern_uses.read_pat tables.now generics.now false arm.now.0 state) (length state.variables) (spec.read tables.now generics.now arm.now.1)) result }
 {
     let from = state.variables.len();
-    let (pat, state) = resolve_pat(alloc, tables, generics, false, &arm.0, state)?;
-    let to = state.variables.len();
-    let count = state.scope.len();
-    let state = state.enter(alloc, from, to)?;
-    let (body, state) = resolve_expr(alloc, tables, generics, &arm.1, state)?;
-    Ok(((pat, body), state.leave(count)?))
+    let (pat, bound) = resolve_pat(alloc, tables, generics, false, &arm.0, state)?;
+    let to = bound.variables.len();
+    let (body, last) = within(alloc, tables, generics, (from, to), &arm.1, bound)?;
+    Ok(((pat, body), last))
 }
 
 /// Arms in order.
@@ -414,32 +418,30 @@ pub(crate) fn resolve_block(
     match &block.node {
         source::BlockNode::Block(span, statements, last) => {
             let statements = statements.as_slice();
-            Ok(block_of(alloc, tables, generics, *span, statements, last, state)?)
+            let ((statements, last), state) = in_block(alloc, tables, generics, statements, last, state)?;
+            let node = BlockNode::Block(*span, statements, last);
+            Ok((Block { node }, state))
         }
     }
 }
 
-/// A block of these statements and this last expression.
+/// The statements and the last expression of a block.
 #[cycle(uses)]
-fn block_of(
+fn in_block(
     alloc: Global,
     tables: &Tables,
     generics: &Generics,
-    span: Span,
     statements: &[source::Stmt],
     last: &Option<Boxed<source::Expr>>,
     state: State,
-) -> Result<(Block, State), Stop>
-    ensures { Gives (spec.read_block tables.now generics.now (source.block span (source.stmts statements.now) (source.maybeexpr last.now)) state) result }
+) -> Result<((List<Stmt>, Option<Boxed<Expr>>), State), Stop>
+    ensures { GivesAs (in_form spec.block_form) (spec.in_block (spec.read_stmts tables.now generics.now (source.stmts statements.now) state) (spec.read_maybe tables.now generics.now (source.maybeexpr last.now)) (length state.scope)) result }
 {
     let count = state.scope.len();
     let (statements, inner) = resolve_stmts(alloc, tables, generics, statements, state)?;
     let (last, after) = resolve_maybe(alloc, tables, generics, last, inner)?;
-    let block = Block {
-        node: BlockNode::Block(span, statements, last),
-    };
     let outer = after.leave(count)?;
-    Ok((block, outer))
+    Ok(((statements, last), outer))
 }
 
 /// Statements in order.
@@ -477,13 +479,12 @@ fn resolve_stmt(
     match &stmt.node {
         source::StmtNode::Run(e, semicolon) => {
             let (e, state) = one(alloc, tables, generics, e.get(), state)?;
-            let stmt = Stmt {
-                node: StmtNode::Run(e, *semicolon),
-            };
-            Ok((stmt, state))
+            let node = StmtNode::Run(e, *semicolon);
+            Ok((Stmt { node }, state))
         }
         source::StmtNode::Bind(span, pat, ty, value) => {
-            Ok(resolve_let(alloc, tables, generics, *span, pat, ty, value, state)?)
+            let parts = Let { pat, ty, value };
+            Ok(resolve_let(alloc, tables, generics, *span, &parts, state)?)
         }
     }
 }
@@ -495,29 +496,19 @@ fn resolve_let(
     tables: &Tables,
     generics: &Generics,
     span: Span,
-    pat: &source_patterns::Pat,
-    ty: &Option<source_types::Written>,
-    value: &Option<Boxed<source::Expr>>,
+    parts: &Let,
     state: State,
 ) -> Result<(Stmt, State), Stop>
-    ensures { Gives (spec.read_stmt tables.now generics.now (source.bind span pat.now (types.maybewritten ty.now) (source.maybeexpr value.now)) state) result }
+    ensures { Gives (spec.read_stmt tables.now generics.now (source.bind span parts.now.pat.now (types.maybewritten parts.now.ty.now) (source.maybeexpr parts.now.value.now)) state) result }
 {
     let from = state.variables.len();
-    let late = is_nothing(value);
-    let (pat, bound) = resolve_pat(alloc, tables, generics, late, pat, state)?;
+    let late = is_nothing(parts.value);
+    let (pat, bound) = resolve_pat(alloc, tables, generics, late, parts.pat, state)?;
     let to = bound.variables.len();
-    let ty = resolve_maybe_type(alloc, tables, generics, ty)?;
-    let (value, after) = resolve_maybe(alloc, tables, generics, value, bound)?;
-    let stmt = Stmt {
-        node: StmtNode::Bind(span, pat, ty, value),
-    };
+    let ty = resolve_maybe_type(alloc, tables, generics, parts.ty)?;
+    let (value, after) = resolve_maybe(alloc, tables, generics, parts.value, bound)?;
+    let node = StmtNode::Bind(span, pat, ty, value);
+    let stmt = Stmt { node };
     let entered = after.enter(alloc, from, to)?;
     Ok((stmt, entered))
-}
-
-/// Whether a `let` has no value.
-fn is_nothing(value: &Option<Boxed<source::Expr>>) -> bool
-    ensures { result ≡ spec.is_nothing (source.maybeexpr value.now) }
-{
-    value.is_none()
 }

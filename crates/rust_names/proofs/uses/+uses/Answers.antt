@@ -6,10 +6,10 @@ use Rattle.rust_ast.specs.SourceTypes as types
 use Rattle.rust_ast.specs.Written as w
 use Rattle.rust_names.specs.PatternUses.{read_pat}
 use Rattle.rust_names.specs.TypeUses.{read_maybe_type}
-use Rattle.rust_names.specs.Uses.{read, read_maybe, read_stmts, read_stmt, read_block, under}
+use Rattle.rust_names.specs.Uses.{read, read_maybe, read_stmts, read_stmt, both_read, within, under, in_block, block_form}
 use Rattle.rust_names.specs.Walks.{on_ok, walk, onward, in_form}
 use Rattle.rust_names.proofs.UseLists.{expr_item, init_item, arm_item, stmt_item, init, arm, walk_all, walk_inits, walk_arms, walk_stmts}
-use Rattle.rust_names.proofs.Bodies.{passes, passes_as, under_fails, under_gives, block_fails, block_gives, let_type_fails, let_value_fails, let_gives, branch_value_fails, branch_yes_fails, branch_no_fails, branch_gives}
+use Rattle.rust_names.proofs.Bodies.{passes, passes_as, passes_form, within_fails, within_gives, under_fails, under_gives, block_fails, block_gives, let_type_fails, let_value_fails, let_gives, branch_value_fails, branch_choice_fails, branch_gives}
 use Rattle.rust_names.proofs.Walking.{walk_start, walk_turn}
 use Rattle.rust_names.proofs.uses.+uses.Goals as goal
 
@@ -75,67 +75,76 @@ resolve_inits-loop-i-preserved t c =
 
 pub resolve_arm-returns-in_err-body : goal.resolve_arm-returns-in_err-body
 resolve_arm-returns-in_err-body t c =
-    passes (read c.args.tables.now c.args.generics.now c.args.arm.now.1 c.in_ok-state.state) (under (read_pat c.args.tables.now c.args.generics.now false c.args.arm.now.0 c.args.state) (length c.args.state.variables) (read c.args.tables.now c.args.generics.now c.args.arm.now.1)) c.from_residual-in_err-body.result c.in_err-body.field-0.0
-    c.in_err-body.ensures c.from_residual-in_err-body.ensures.1 (λ q h.
-    under_fails (read_pat c.args.tables.now c.args.generics.now false c.args.arm.now.0 c.args.state) (length c.args.state.variables) c.len-from.result c.len-to.result (read c.args.tables.now c.args.generics.now c.args.arm.now.1) c.in_ok-pat.pat c.in_ok-pat.state c.in_ok-state.state q
-    c.in_ok-pat.ensures c.len-from.ensures c.len-to.ensures c.in_ok-state.ensures h)
+    let o = read_pat c.args.tables.now c.args.generics.now false c.args.arm.now.0 c.args.state in
+    let inside = read c.args.tables.now c.args.generics.now c.args.arm.now.1 in
+    let n = length c.args.state.variables in
+    passes (within c.len-from.result c.len-to.result inside c.in_ok-pat.bound) (under o n inside) c.from_residual-in_err-body.result c.in_err-body.field-0.0 c.in_err-body.ensures c.from_residual-in_err-body.ensures.1 (λ q h.
+    under_fails o n c.len-from.result c.len-to.result inside c.in_ok-pat.pat c.in_ok-pat.bound q c.in_ok-pat.ensures c.len-from.ensures c.len-to.ensures h)
 
 pub resolve_arm-returns : goal.resolve_arm-returns
 resolve_arm-returns t c =
-    under_gives (read_pat c.args.tables.now c.args.generics.now false c.args.arm.now.0 c.args.state) (length c.args.state.variables) c.len-from.result c.len-to.result c.len-count.result (read c.args.tables.now c.args.generics.now c.args.arm.now.1) c.in_ok-pat.pat c.in_ok-body.body c.in_ok-pat.state c.in_ok-state.state c.in_ok-body.state c.in_ok-leave.field-0
-    c.in_ok-pat.ensures c.len-from.ensures c.len-to.ensures c.in_ok-state.ensures c.in_ok-body.ensures c.len-count.ensures c.in_ok-leave.ensures
+    under_gives (read_pat c.args.tables.now c.args.generics.now false c.args.arm.now.0 c.args.state) (length c.args.state.variables) c.len-from.result c.len-to.result (read c.args.tables.now c.args.generics.now c.args.arm.now.1)
+    c.in_ok-pat.pat c.in_ok-body.body c.in_ok-pat.bound c.in_ok-body.last c.in_ok-pat.ensures c.len-from.ensures c.len-to.ensures c.in_ok-body.ensures
 
-pub block_of-returns-in_err-last : goal.block_of-returns-in_err-last
-block_of-returns-in_err-last t c =
-    let ss = s.stmts c.args.statements.now in
-    let o = s.maybeexpr c.args.last.now in
-    passes_as (in_form r.maybeexpr) (read_maybe c.args.tables.now c.args.generics.now o c.in_ok-statements.inner) (read_block c.args.tables.now c.args.generics.now (s.block c.args.span ss o) c.args.state) c.from_residual-in_err-last.result c.in_err-last.field-0.0
-    c.in_err-last.ensures c.from_residual-in_err-last.ensures.1 (λ q h.
-    block_fails c.args.tables.now c.args.generics.now c.args.span ss o c.args.state c.in_ok-statements.inner (r.stmts c.in_ok-statements.statements) q c.in_ok-statements.ensures h)
+pub within-returns-in_err-body : goal.within-returns-in_err-body
+within-returns-in_err-body t c =
+    let inside = read c.args.tables.now c.args.generics.now c.args.body.now in
+    passes (inside c.in_ok-inner.inner) (within c.args.names.0 c.args.names.1 inside c.args.state) c.from_residual-in_err-body.result c.in_err-body.field-0.0 c.in_err-body.ensures c.from_residual-in_err-body.ensures.1 (λ q h.
+    within_fails c.args.names.0 c.args.names.1 inside c.args.state c.in_ok-inner.inner q c.in_ok-inner.ensures h)
 
-pub block_of-returns : goal.block_of-returns
-block_of-returns t c =
-    block_gives c.args.tables.now c.args.generics.now c.args.span (s.stmts c.args.statements.now) (s.maybeexpr c.args.last.now) c.len-count.result c.args.state c.in_ok-statements.inner c.in_ok-last.after c.in_ok-outer.outer
-    (r.stmts c.in_ok-statements.statements) (r.maybeexpr c.in_ok-last.last) c.in_ok-statements.ensures c.in_ok-last.ensures c.len-count.ensures c.in_ok-outer.ensures
+pub within-returns : goal.within-returns
+within-returns t c =
+    within_gives c.args.names.0 c.args.names.1 c.len-count.result (read c.args.tables.now c.args.generics.now c.args.body.now) c.in_ok-body.body c.args.state c.in_ok-inner.inner c.in_ok-body.after c.in_ok-outer.outer
+    c.len-count.ensures c.in_ok-inner.ensures c.in_ok-body.ensures c.in_ok-outer.ensures
+
+pub in_block-returns-in_err-last : goal.in_block-returns-in_err-last
+in_block-returns-in_err-last t c =
+    let first = read_stmts c.args.tables.now c.args.generics.now (s.stmts c.args.statements.now) c.args.state in
+    let next = read_maybe c.args.tables.now c.args.generics.now (s.maybeexpr c.args.last.now) in
+    passes_form (in_form r.maybeexpr) (next c.in_ok-statements.inner) (in_form block_form) (in_block first next (length c.args.state.scope)) c.from_residual-in_err-last.result c.in_err-last.field-0.0
+    c.in_err-last.ensures c.from_residual-in_err-last.ensures.1 (λ q h. block_fails first next (length c.args.state.scope) c.in_ok-statements.inner (r.stmts c.in_ok-statements.statements) q c.in_ok-statements.ensures h)
+
+pub in_block-returns : goal.in_block-returns
+in_block-returns t c =
+    block_gives (read_stmts c.args.tables.now c.args.generics.now (s.stmts c.args.statements.now) c.args.state) (read_maybe c.args.tables.now c.args.generics.now (s.maybeexpr c.args.last.now)) (length c.args.state.scope) c.len-count.result
+    c.in_ok-statements.inner c.in_ok-last.after c.in_ok-outer.outer (r.stmts c.in_ok-statements.statements) (r.maybeexpr c.in_ok-last.last) c.in_ok-statements.ensures c.in_ok-last.ensures c.len-count.ensures c.in_ok-outer.ensures
 
 pub resolve_let-returns-in_err-ty : goal.resolve_let-returns-in_err-ty
 resolve_let-returns-in_err-ty t c =
-    passes_as w.maybewritten (read_maybe_type c.args.tables.now c.args.generics.now (types.maybewritten c.args.ty.now)) (read_stmt c.args.tables.now c.args.generics.now (s.bind c.args.span c.args.pat.now (types.maybewritten c.args.ty.now) (s.maybeexpr c.args.value.now)) c.args.state) c.from_residual-in_err-ty.result c.in_err-ty.field-0.0
+    passes_as w.maybewritten (read_maybe_type c.args.tables.now c.args.generics.now (types.maybewritten c.args.parts.now.ty.now)) (read_stmt c.args.tables.now c.args.generics.now (s.bind c.args.span c.args.parts.now.pat.now (types.maybewritten c.args.parts.now.ty.now) (s.maybeexpr c.args.parts.now.value.now)) c.args.state) c.from_residual-in_err-ty.result c.in_err-ty.field-0.0
     c.in_err-ty.ensures c.from_residual-in_err-ty.ensures.1 (λ q h.
-    let_type_fails c.args.tables.now c.args.generics.now c.args.span c.args.pat.now (types.maybewritten c.args.ty.now) (s.maybeexpr c.args.value.now) c.args.state c.in_ok-pat.bound c.is_nothing-late.result c.in_ok-pat.pat q c.is_nothing-late.ensures c.in_ok-pat.ensures h)
+    let_type_fails c.args.tables.now c.args.generics.now c.args.span c.args.parts.now.pat.now (types.maybewritten c.args.parts.now.ty.now) (s.maybeexpr c.args.parts.now.value.now) c.args.state c.in_ok-pat.bound c.is_nothing-late.result c.in_ok-pat.pat q c.is_nothing-late.ensures c.in_ok-pat.ensures h)
 
 pub resolve_let-returns-in_err-value : goal.resolve_let-returns-in_err-value
 resolve_let-returns-in_err-value t c =
-    passes_as (in_form r.maybeexpr) (read_maybe c.args.tables.now c.args.generics.now (s.maybeexpr c.args.value.now) c.in_ok-pat.bound) (read_stmt c.args.tables.now c.args.generics.now (s.bind c.args.span c.args.pat.now (types.maybewritten c.args.ty.now) (s.maybeexpr c.args.value.now)) c.args.state) c.from_residual-in_err-value.result c.in_err-value.field-0.0
+    passes_as (in_form r.maybeexpr) (read_maybe c.args.tables.now c.args.generics.now (s.maybeexpr c.args.parts.now.value.now) c.in_ok-pat.bound) (read_stmt c.args.tables.now c.args.generics.now (s.bind c.args.span c.args.parts.now.pat.now (types.maybewritten c.args.parts.now.ty.now) (s.maybeexpr c.args.parts.now.value.now)) c.args.state) c.from_residual-in_err-value.result c.in_err-value.field-0.0
     c.in_err-value.ensures c.from_residual-in_err-value.ensures.1 (λ q h.
-    let_value_fails c.args.tables.now c.args.generics.now c.args.span c.args.pat.now (types.maybewritten c.args.ty.now) (s.maybeexpr c.args.value.now) c.args.state c.in_ok-pat.bound c.is_nothing-late.result c.in_ok-pat.pat (w.maybewritten c.in_ok-ty.ty) q c.is_nothing-late.ensures c.in_ok-pat.ensures c.in_ok-ty.ensures h)
+    let_value_fails c.args.tables.now c.args.generics.now c.args.span c.args.parts.now.pat.now (types.maybewritten c.args.parts.now.ty.now) (s.maybeexpr c.args.parts.now.value.now) c.args.state c.in_ok-pat.bound c.is_nothing-late.result c.in_ok-pat.pat (w.maybewritten c.in_ok-ty.ty) q c.is_nothing-late.ensures c.in_ok-pat.ensures c.in_ok-ty.ensures h)
 
 pub resolve_let-returns : goal.resolve_let-returns
 resolve_let-returns t c =
-    let_gives c.args.tables.now c.args.generics.now c.args.span c.args.pat.now (types.maybewritten c.args.ty.now) (s.maybeexpr c.args.value.now) c.len-from.result c.len-to.result c.args.state c.in_ok-pat.bound c.in_ok-value.after c.in_ok-entered.entered c.is_nothing-late.result c.in_ok-pat.pat (w.maybewritten c.in_ok-ty.ty)
+    let_gives c.args.tables.now c.args.generics.now c.args.span c.args.parts.now.pat.now (types.maybewritten c.args.parts.now.ty.now) (s.maybeexpr c.args.parts.now.value.now) c.len-from.result c.len-to.result c.args.state c.in_ok-pat.bound c.in_ok-value.after c.in_ok-entered.entered c.is_nothing-late.result c.in_ok-pat.pat (w.maybewritten c.in_ok-ty.ty)
     (r.maybeexpr c.in_ok-value.value) c.is_nothing-late.ensures c.in_ok-pat.ensures c.in_ok-ty.ensures c.in_ok-value.ensures c.len-from.ensures c.len-to.ensures c.in_ok-entered.ensures
 
 pub let_branch-returns-in_err-scrutinee : goal.let_branch-returns-in_err-scrutinee
 let_branch-returns-in_err-scrutinee t c =
-    passes (read c.args.tables.now c.args.generics.now c.args.value.now c.in_ok-pat.bound) (read c.args.tables.now c.args.generics.now (s.let_branch c.args.span c.args.pat.now c.args.value.now c.args.matched.now c.args.other.now) c.args.state) c.from_residual-in_err-scrutinee.result c.in_err-scrutinee.field-0.0 c.in_err-scrutinee.ensures c.from_residual-in_err-scrutinee.ensures.1 (λ q h.
-    branch_value_fails c.args.tables.now c.args.generics.now c.args.span c.args.pat.now c.args.value.now c.args.matched.now c.args.other.now c.args.state c.in_ok-pat.bound c.in_ok-pat.pat q c.in_ok-pat.ensures h)
+    let p = c.args.parts.now in
+    passes (read c.args.tables.now c.args.generics.now p.value.now c.in_ok-pat.bound) (read c.args.tables.now c.args.generics.now (s.let_branch c.args.span p.pat.now p.value.now p.matched.now p.other.now) c.args.state)
+    c.from_residual-in_err-scrutinee.result c.in_err-scrutinee.field-0.0 c.in_err-scrutinee.ensures c.from_residual-in_err-scrutinee.ensures.1 (λ q h.
+    branch_value_fails c.args.tables.now c.args.generics.now c.args.span p.pat.now p.value.now p.matched.now p.other.now c.args.state c.in_ok-pat.bound c.in_ok-pat.pat q c.in_ok-pat.ensures h)
 
-pub let_branch-returns-in_err-matched : goal.let_branch-returns-in_err-matched
-let_branch-returns-in_err-matched t c =
-    passes (read c.args.tables.now c.args.generics.now c.args.matched.now c.in_ok-inner.inner) (read c.args.tables.now c.args.generics.now (s.let_branch c.args.span c.args.pat.now c.args.value.now c.args.matched.now c.args.other.now) c.args.state) c.from_residual-in_err-matched.result c.in_err-matched.field-0.0 c.in_err-matched.ensures c.from_residual-in_err-matched.ensures.1 (λ q h.
-    branch_yes_fails c.args.tables.now c.args.generics.now c.args.span c.args.pat.now c.args.value.now c.args.matched.now c.args.other.now c.len-from.result c.len-to.result c.args.state c.in_ok-pat.bound c.in_ok-scrutinee.known c.in_ok-inner.inner c.in_ok-pat.pat c.in_ok-scrutinee.scrutinee q
-    c.in_ok-pat.ensures c.in_ok-scrutinee.ensures c.len-from.ensures c.len-to.ensures c.in_ok-inner.ensures h)
-
-pub let_branch-returns-in_err-other : goal.let_branch-returns-in_err-other
-let_branch-returns-in_err-other t c =
-    passes (read c.args.tables.now c.args.generics.now c.args.other.now c.in_ok-outer.outer) (read c.args.tables.now c.args.generics.now (s.let_branch c.args.span c.args.pat.now c.args.value.now c.args.matched.now c.args.other.now) c.args.state) c.from_residual-in_err-other.result c.in_err-other.field-0.0 c.in_err-other.ensures c.from_residual-in_err-other.ensures.1 (λ q h.
-    branch_no_fails c.args.tables.now c.args.generics.now c.args.span c.args.pat.now c.args.value.now c.args.matched.now c.args.other.now c.len-from.result c.len-to.result c.len-count.result c.args.state c.in_ok-pat.bound c.in_ok-scrutinee.known c.in_ok-inner.inner c.in_ok-matched.after c.in_ok-outer.outer
-    c.in_ok-pat.pat c.in_ok-scrutinee.scrutinee c.in_ok-matched.matched q
-    c.in_ok-pat.ensures c.in_ok-scrutinee.ensures c.len-from.ensures c.len-to.ensures c.in_ok-inner.ensures c.in_ok-matched.ensures c.len-count.ensures c.in_ok-outer.ensures h)
+pub let_branch-returns-in_err-yes : goal.let_branch-returns-in_err-yes
+let_branch-returns-in_err-yes t c =
+    let p = c.args.parts.now in
+    passes (both_read (within c.len-from.result c.len-to.result (read c.args.tables.now c.args.generics.now p.matched.now) c.in_ok-scrutinee.known) (read c.args.tables.now c.args.generics.now p.other.now))
+    (read c.args.tables.now c.args.generics.now (s.let_branch c.args.span p.pat.now p.value.now p.matched.now p.other.now) c.args.state)
+    c.from_residual-in_err-yes.result c.in_err-yes.field-0.0 c.in_err-yes.ensures c.from_residual-in_err-yes.ensures.1 (λ q h.
+    branch_choice_fails c.args.tables.now c.args.generics.now c.args.span p.pat.now p.value.now p.matched.now p.other.now c.len-from.result c.len-to.result c.args.state c.in_ok-pat.bound c.in_ok-scrutinee.known
+    c.in_ok-pat.pat c.in_ok-scrutinee.scrutinee q c.in_ok-pat.ensures c.in_ok-scrutinee.ensures c.len-from.ensures c.len-to.ensures h)
 
 pub let_branch-returns : goal.let_branch-returns
 let_branch-returns t c =
-    branch_gives c.args.tables.now c.args.generics.now c.args.span c.args.pat.now c.args.value.now c.args.matched.now c.args.other.now c.len-from.result c.len-to.result c.len-count.result c.args.state c.in_ok-pat.bound c.in_ok-scrutinee.known c.in_ok-inner.inner c.in_ok-matched.after c.in_ok-outer.outer c.in_ok-other.last
-    c.in_ok-pat.pat c.in_ok-scrutinee.scrutinee c.in_ok-matched.matched c.in_ok-other.other
-    c.in_ok-pat.ensures c.in_ok-scrutinee.ensures c.len-from.ensures c.len-to.ensures c.in_ok-inner.ensures c.in_ok-matched.ensures c.len-count.ensures c.in_ok-outer.ensures c.in_ok-other.ensures
-    ∙ ap (λ e. Ok (e, c.in_ok-other.last)) (sym c.in_ok-select.ensures)
+    let p = c.args.parts.now in
+    branch_gives c.args.tables.now c.args.generics.now c.args.span p.pat.now p.value.now p.matched.now p.other.now c.len-from.result c.len-to.result c.args.state c.in_ok-pat.bound c.in_ok-scrutinee.known c.in_ok-yes.last
+    c.in_ok-pat.pat c.in_ok-scrutinee.scrutinee c.in_ok-yes.yes c.in_ok-yes.no c.in_ok-pat.ensures c.in_ok-scrutinee.ensures c.len-from.ensures c.len-to.ensures c.in_ok-yes.ensures
+    ∙ ap (λ e. Ok (e, c.in_ok-yes.last)) (sym c.in_ok-select.ensures)

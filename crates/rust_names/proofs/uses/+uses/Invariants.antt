@@ -7,52 +7,58 @@ use Rattle.rust_names.proofs.UseLists.{init, arm}
 use Rattle.rust_names.proofs.uses.+uses.Given as goal
 
 abbrev pub decreases-resolve_expr : goal.decreases-resolve_expr
-decreases-resolve_expr l = 3 * s.nodes_expr l.e.now
+decreases-resolve_expr l = 4 * s.nodes_expr l.e.now
 
 abbrev pub decreases-one : goal.decreases-one
-decreases-one l = 3 * s.nodes_expr l.e.now + 1
+decreases-one l = 4 * s.nodes_expr l.e.now + 1
 
 abbrev pub decreases-two : goal.decreases-two
-decreases-two l = 3 * (s.nodes_expr l.a.now + s.nodes_expr l.b.now) + 2
+decreases-two l = 4 * (s.nodes_expr l.a.now + s.nodes_expr l.b.now) + 2
 
 abbrev pub decreases-boxed_block : goal.decreases-boxed_block
-decreases-boxed_block l = 3 * s.nodes_block l.block.now + 1
+decreases-boxed_block l = 4 * s.nodes_block l.block.now + 1
 
 abbrev pub decreases-let_branch : goal.decreases-let_branch
-decreases-let_branch l = 3 * (s.nodes_expr l.value.now + s.nodes_expr l.matched.now + s.nodes_expr l.other.now) + 2
+decreases-let_branch l = 4 * (s.nodes_expr l.parts.now.value.now + s.nodes_expr l.parts.now.matched.now + s.nodes_expr l.parts.now.other.now) + 3
 
-abbrev pub decreases-block_of : goal.decreases-block_of
-decreases-block_of l = 3 * (s.nodes_stmts (s.stmts l.statements.now) + s.nodes_maybeexpr (s.maybeexpr l.last.now)) + 1
+abbrev pub decreases-choice : goal.decreases-choice
+decreases-choice l = 4 * (s.nodes_expr l.parts.now.matched.now + s.nodes_expr l.parts.now.other.now) + 2
+
+abbrev pub decreases-within : goal.decreases-within
+decreases-within l = 4 * s.nodes_expr l.body.now + 1
+
+abbrev pub decreases-in_block : goal.decreases-in_block
+decreases-in_block l = 4 * (s.nodes_stmts (s.stmts l.statements.now) + s.nodes_maybeexpr (s.maybeexpr l.last.now)) + 1
 
 abbrev pub decreases-resolve_let : goal.decreases-resolve_let
-decreases-resolve_let l = 3 * s.nodes_maybeexpr (s.maybeexpr l.value.now) + 1
+decreases-resolve_let l = 4 * s.nodes_maybeexpr (s.maybeexpr l.parts.now.value.now) + 1
 
 abbrev pub decreases-resolve_maybe : goal.decreases-resolve_maybe
-decreases-resolve_maybe l = 3 * s.nodes_maybeexpr (s.maybeexpr l.e.now)
+decreases-resolve_maybe l = 4 * s.nodes_maybeexpr (s.maybeexpr l.e.now)
 
 abbrev pub decreases-resolve_all : goal.decreases-resolve_all
-decreases-resolve_all l = 3 * s.nodes_exprs (s.exprs l.items.now)
+decreases-resolve_all l = 4 * s.nodes_exprs (s.exprs l.items.now)
 
 abbrev pub decreases-resolve_init : goal.decreases-resolve_init
-decreases-resolve_init l = 3 * s.nodes_expr l.item.now.2 + 1
+decreases-resolve_init l = 4 * s.nodes_expr l.item.now.2 + 1
 
 abbrev pub decreases-resolve_inits : goal.decreases-resolve_inits
-decreases-resolve_inits l = 3 * s.nodes_inits (s.inits l.items.now)
+decreases-resolve_inits l = 4 * s.nodes_inits (s.inits l.items.now)
 
 abbrev pub decreases-resolve_arm : goal.decreases-resolve_arm
-decreases-resolve_arm l = 3 * s.nodes_expr l.arm.now.1 + 1
+decreases-resolve_arm l = 4 * s.nodes_expr l.arm.now.1 + 2
 
 abbrev pub decreases-resolve_arms : goal.decreases-resolve_arms
-decreases-resolve_arms l = 3 * s.nodes_arms (s.arms l.items.now)
+decreases-resolve_arms l = 4 * s.nodes_arms (s.arms l.items.now)
 
 abbrev pub decreases-resolve_block : goal.decreases-resolve_block
-decreases-resolve_block l = 3 * s.nodes_block l.block.now
+decreases-resolve_block l = 4 * s.nodes_block l.block.now
 
 abbrev pub decreases-resolve_stmts : goal.decreases-resolve_stmts
-decreases-resolve_stmts l = 3 * s.nodes_stmts (s.stmts l.items.now)
+decreases-resolve_stmts l = 4 * s.nodes_stmts (s.stmts l.items.now)
 
 abbrev pub decreases-resolve_stmt : goal.decreases-resolve_stmt
-decreases-resolve_stmt l = 3 * s.nodes_stmt l.stmt.now
+decreases-resolve_stmt l = 4 * s.nodes_stmt l.stmt.now
 
 abbrev pub invariant-resolve_all-loop-i : goal.invariant-resolve_all-loop-i
 invariant-resolve_all-loop-i l =
