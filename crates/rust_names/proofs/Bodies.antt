@@ -161,7 +161,7 @@ module _ (t : Tables) (g : Generics) where
   branch_choice_fails q x a b c m n st st1 st2 y h o i k f e d =
       branch_to_choice q x a b c m n st st1 st2 y h i k f e ∙ ap (λ z. and_then z (branch_end q y h)) d
 
-  pub branch_gives : (q : Span) (x : sp.Pat) (a b c : s.Expr) (m n : ℕ) (st st1 st2 last : State) (y : p.Pat) (h yes no : r.Expr) → read_pat t g false x st ≡ Ok (y, st1) → read t g a st1 ≡ Ok (h, st2) →
-      m ≡ length st.variables → n ≡ length st1.variables → both_read (within m n (read t g b) st2) (read t g c) ≡ Ok ((yes, no), last) → read t g (s.let_branch q x a b c) st ≡ Ok (two_arms q h y yes no, last)
-  branch_gives q x a b c m n st st1 st2 last y h yes no i k f e d =
+  pub branch_gives : (q : Span) (x : sp.Pat) (a b c : s.Expr) (m n : ℕ) (st st1 st2 last : State) (y : p.Pat) (h u v : r.Expr) → read_pat t g false x st ≡ Ok (y, st1) → read t g a st1 ≡ Ok (h, st2) →
+      m ≡ length st.variables → n ≡ length st1.variables → both_read (within m n (read t g b) st2) (read t g c) ≡ Ok ((u, v), last) → read t g (s.let_branch q x a b c) st ≡ Ok (two_arms q h y u v, last)
+  branch_gives q x a b c m n st st1 st2 last y h u v i k f e d =
       branch_to_choice q x a b c m n st st1 st2 y h i k f e ∙ ap (λ z. and_then z (branch_end q y h)) d
