@@ -11,11 +11,12 @@ use Rattle.rust_ast.specs.declared.program.Item.{Item}
 use Rattle.rust_ast.specs.declared.program.Item.TheVariants as forms
 use Rattle.rust_ast.specs.declared.program.Function as functions
 use Rattle.rust_ast.specs.declared.program.Enum as enums
+use Rattle.rust_ast.specs.declared.program.Struct as structs
 use Rattle.rust_ast.specs.declared.program.Variant as variants
 use Rattle.rust_names.specs.declared.tables.ValueNames.{ValueNames}
 use Rattle.rust_names.specs.Finding.{or_else}
 use Rattle.rust_names.specs.FirstPlaces.{AreFirst}
-use Rattle.rust_names.specs.Twice.{Pair, with_second, must_differ, first_like, first_named, repeated, repeated_parameter, twice_own, entry, param_idents, variant_idents, twice_in_block, twice_in_item, twice_in_items, with_entries}
+use Rattle.rust_names.specs.Twice.{Pair, with_second, must_differ, first_like, first_named, repeated, repeated_parameter, twice_own, entry, param_idents, field_names, struct_kind, variant_idents, twice_in_block, twice_in_item, twice_in_items, with_entries}
 use Rattle.rust_names.proofs.Placing.{taken}
 use Rattle.rust_names.proofs.Walking.{drop_at, drop_all}
 
@@ -147,3 +148,12 @@ enum_twice vs seen x ps vars own params inside rest places p l a b d e h =
     h ∙ ap (or_else own) e
     ∙ (λ i. or_else (a i) (or_else (b i) (d i)))
     ∙ (λ i. or_else (twice_own seen (entry kind.Type x.name ∷ [])) (or_else (repeated_parameter (seen ++ entry kind.Type x.name ∷ []) [] (p i)) (repeated [] (variant_idents (l i)))))
+
+pub struct_twice : (vs : List ValueNames) (seen : List Entry) (x : structs.Struct) (k : Kind) (ps : List Ident) (own params inside rest places : Pair) → k ≡ struct_kind x.fields → ps ≡ x.params →
+    own ≡ twice_own seen (entry k x.name ∷ []) → params ≡ repeated_parameter (seen ++ entry k x.name ∷ []) [] ps → inside ≡ repeated [] (field_names x.fields) →
+    rest ≡ or_else params inside → places ≡ or_else own rest → places ≡ twice_in_item vs seen (forms.Struct x)
+unfolding twice_in_item
+struct_twice vs seen x k ps own params inside rest places q p a b d e h =
+    h ∙ ap (or_else own) e
+    ∙ (λ i. or_else (a i) (or_else (b i) (d i)))
+    ∙ (λ i. or_else (twice_own seen (entry (q i) x.name ∷ [])) (or_else (repeated_parameter (seen ++ entry (q i) x.name ∷ []) [] (p i)) (repeated [] (field_names x.fields))))

@@ -13,9 +13,23 @@ use std::alloc::Global;
 use std::marker::Model;
 
 /// The names of items and type parameters so far: contracts see the list of them.
-#[derive(Drop)]
 pub(crate) struct Seen {
     entries: List<Entry>,
+    places: Places,
+}
+
+/// By hand, as a derived `drop` is written out at each `?`.
+impl Drop for Seen {
+    fn drop(self) {
+        let Seen {
+            entries: _,
+            places: _,
+        } = self;
+    }
+}
+
+/// Of each name the first places that names must differ from.
+pub(crate) struct Places {
     /// Of each name the first place that a type of this name must differ from.
     types: IndexMap<Name, Span>,
     /// The same for a function.
@@ -24,6 +38,18 @@ pub(crate) struct Seen {
     both: IndexMap<Name, Span>,
     /// The same for a type parameter.
     parameters: IndexMap<Name, Span>,
+}
+
+/// By hand, as a derived `drop` is written out at each `?`.
+impl Drop for Places {
+    fn drop(self) {
+        let Places {
+            types: _,
+            values: _,
+            both: _,
+            parameters: _,
+        } = self;
+    }
 }
 
 impl Model for Seen {
@@ -43,7 +69,7 @@ impl Model for Seen {
 
     ghost view = { λ s. s.entries };
 
-    ghost invariant = { λ s. AreFirst kind.Type (get bytes_eq s.types) s.entries × AreFirst kind.Value (get bytes_eq s.values) s.entries × AreFirst kind.Both (get bytes_eq s.both) s.entries × AreFirst kind.Parameter (get bytes_eq s.parameters) s.entries };
+    ghost invariant = { λ s. AreFirst kind.Type (get bytes_eq s.places.types) s.entries × AreFirst kind.Value (get bytes_eq s.places.values) s.entries × AreFirst kind.Both (get bytes_eq s.places.both) s.entries × AreFirst kind.Parameter (get bytes_eq s.places.parameters) s.entries };
 }
 
 impl Seen {
@@ -53,10 +79,12 @@ impl Seen {
     {
         Seen {
             entries: List::new(alloc),
-            types: IndexMap::new(alloc),
-            values: IndexMap::new(alloc),
-            both: IndexMap::new(alloc),
-            parameters: IndexMap::new(alloc),
+            places: Places {
+                types: IndexMap::new(alloc),
+                values: IndexMap::new(alloc),
+                both: IndexMap::new(alloc),
+                parameters: IndexMap::new(alloc),
+            },
         }
     }
 
@@ -65,10 +93,10 @@ impl Seen {
         ensures { result ≡ spec.first_like kind name.now self.now }
     {
         match kind {
-            Kind::Type => self.types.get(name).copied(),
-            Kind::Value => self.values.get(name).copied(),
-            Kind::Both => self.both.get(name).copied(),
-            Kind::Parameter => self.parameters.get(name).copied(),
+            Kind::Type => self.places.types.get(name).copied(),
+            Kind::Value => self.places.values.get(name).copied(),
+            Kind::Both => self.places.both.get(name).copied(),
+            Kind::Parameter => self.places.parameters.get(name).copied(),
         }
     }
 
@@ -78,32 +106,23 @@ impl Seen {
     {
         let Seen {
             mut entries,
-            mut types,
-            mut values,
-            mut both,
-            mut parameters,
+            mut places,
         } = self;
         let of_types = must_differ(Kind::Type, kind);
         let of_values = must_differ(Kind::Value, kind);
         let of_both = must_differ(Kind::Both, kind);
         let of_parameters = must_differ(Kind::Parameter, kind);
-        note_for(alloc, &mut types, of_types, name)?;
-        note_for(alloc, &mut values, of_values, name)?;
-        note_for(alloc, &mut both, of_both, name)?;
-        note_for(alloc, &mut parameters, of_parameters, name)?;
+        note_for(alloc, &mut places.types, of_types, name)?;
+        note_for(alloc, &mut places.values, of_values, name)?;
+        note_for(alloc, &mut places.both, of_both, name)?;
+        note_for(alloc, &mut places.parameters, of_parameters, name)?;
         let own = name.name.try_clone(alloc)?;
         entries.push(Entry {
             name: own,
             span: name.span,
             kind,
         })?;
-        Ok(Seen {
-            entries,
-            types,
-            values,
-            both,
-            parameters,
-        })
+        Ok(Seen { entries, places })
     }
 }
 

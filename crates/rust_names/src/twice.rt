@@ -13,7 +13,7 @@ use crate::tables::Tables;
 use crate::twice_bodies::twice_in_block;
 use aen_base::{NoMem, Span};
 use rust_ast::Ident;
-use rust_ast::program::{Enum, Fields, Function, Item, Variant};
+use rust_ast::program::{Enum, Fields, Function, Item, Struct, Variant};
 use std::alloc::Global;
 
 /// What a struct's name may not have in common with another.
@@ -114,6 +114,25 @@ fn twice_in_named_function(
     Ok((places, more))
 }
 
+/// The first in a struct, and the names so far with the struct's.
+fn twice_in_struct(
+    alloc: Global,
+    tables: &Tables,
+    seen: Seen,
+    s: &Struct,
+) -> Result<(Option<(Span, Span)>, Seen), NoMem>
+    ensures places { IfOk result (λ r. r.0 ≡ spec.twice_in_item tables.now.values seen (items.Struct s.now)) }
+    ensures names { IfOk result (λ r. r.1 ≡ spec.with_entries seen (items.Struct s.now)) }
+{
+    let kind = struct_kind(&s.fields);
+    let parameters = s.params.as_slice();
+    let (own, params, more) = with_item_names(alloc, seen, kind, &s.name, parameters)?;
+    let inside = repeated_field(alloc, &s.fields)?;
+    let rest = first(params, inside);
+    let places = first(own, rest);
+    Ok((places, more))
+}
+
 /// The first variant's name that stands before it.
 fn repeated_variant(alloc: Global, variants: &[Variant]) -> Result<Option<(Span, Span)>, NoMem>
     ensures { IfOk result (λ p. p ≡ spec.repeated [] (spec.variant_idents variants.now)) }
@@ -152,13 +171,7 @@ fn twice_in_item(
 {
     match item {
         Item::Function(f) => Ok(twice_in_named_function(alloc, tables, seen, f)?),
-        Item::Struct(s) => {
-            let kind = struct_kind(&s.fields);
-            let params = s.params.as_slice();
-            let (own, params, seen) = with_item_names(alloc, seen, kind, &s.name, params)?;
-            let inside = repeated_field(alloc, &s.fields)?;
-            Ok((first(own, first(params, inside)), seen))
-        }
+        Item::Struct(s) => Ok(twice_in_struct(alloc, tables, seen, s)?),
         Item::Enum(e) => Ok(twice_in_enum(alloc, tables, seen, e)?),
         Item::UseMem => Ok((None, seen)),
     }

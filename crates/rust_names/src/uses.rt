@@ -418,7 +418,9 @@ pub(crate) fn resolve_block(
     match &block.node {
         source::BlockNode::Block(span, statements, last) => {
             let statements = statements.as_slice();
-            let ((statements, last), state) = in_block(alloc, tables, generics, statements, last, state)?;
+            let ((statements, last), state) = in_block(
+                alloc, tables, generics, statements, last, state,
+            )?;
             let node = BlockNode::Block(*span, statements, last);
             Ok((Block { node }, state))
         }

@@ -14,8 +14,8 @@ invariant_of-result c =
     c.in_ok-push.ensures.ok ∙ ap (λ (n : List ℕ). es ++ record { name = n; span = c.args.name.now.span; kind = c.args.kind } ∷ []) c.in_ok-own.ensures in
     let k = c.args.kind in
     let i = c.args.name.now in (
-      noted kind.Type k i es ys c.must_differ-of_types.result (get bytes_eq c.self.inside.types) (get bytes_eq c.note_for.new.table) c.must_differ-of_types.ensures q c.in_ok-note_for.ensures c.self.invariant.0,
-      noted kind.Value k i es ys c.must_differ-of_values.result (get bytes_eq c.self.inside.values) (get bytes_eq c.note_for-2.new.table) c.must_differ-of_values.ensures q c.in_ok-note_for-2.ensures c.self.invariant.1,
-      noted kind.Both k i es ys c.must_differ-of_both.result (get bytes_eq c.self.inside.both) (get bytes_eq c.note_for-3.new.table) c.must_differ-of_both.ensures q c.in_ok-note_for-3.ensures c.self.invariant.2,
-      noted kind.Parameter k i es ys c.must_differ-of_parameters.result (get bytes_eq c.self.inside.parameters) (get bytes_eq c.note_for-4.new.table) c.must_differ-of_parameters.ensures q c.in_ok-note_for-4.ensures c.self.invariant.3,
+      noted kind.Type k i es ys c.must_differ-of_types.result (get bytes_eq c.self.inside.places.types) (get bytes_eq c.note_for.new.table) c.must_differ-of_types.ensures q c.in_ok-note_for.ensures c.self.invariant.0,
+      noted kind.Value k i es ys c.must_differ-of_values.result (get bytes_eq c.self.inside.places.values) (get bytes_eq c.note_for-2.new.table) c.must_differ-of_values.ensures q c.in_ok-note_for-2.ensures c.self.invariant.1,
+      noted kind.Both k i es ys c.must_differ-of_both.result (get bytes_eq c.self.inside.places.both) (get bytes_eq c.note_for-3.new.table) c.must_differ-of_both.ensures q c.in_ok-note_for-3.ensures c.self.invariant.2,
+      noted kind.Parameter k i es ys c.must_differ-of_parameters.result (get bytes_eq c.self.inside.places.parameters) (get bytes_eq c.note_for-4.new.table) c.must_differ-of_parameters.ensures q c.in_ok-note_for-4.ensures c.self.invariant.3,
     )
