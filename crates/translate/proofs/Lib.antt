@@ -8,6 +8,6 @@ pub mod Meaning
 pub mod Items
 pub mod Steps
 pub mod Statements
-pub mod Kinds
+pub mod DefinitionKinds
 pub mod WellFormed
 pub mod Scoping

@@ -32,7 +32,7 @@ use Rattle.translate.specs.Adds.{IsNumbered, AreNumbered}
 use Rattle.translate.proofs.Items.{each_push}
 use Rattle.source_meaning.specs.PlaceLemmas.{get_left_some}
 use Rattle.translate.proofs.Meaning.{definitions_get}
-use Rattle.translate.proofs.Kinds.{kinds_differ, in_order}
+use Rattle.translate.proofs.DefinitionKinds.{kinds_differ, in_order}
 
 -- an atom whose variable has a number, or whose number is in range
 abbrev IsAtom : Atom → Type 0
