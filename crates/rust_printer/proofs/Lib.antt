@@ -5,3 +5,11 @@ mod SpelledTypes
 mod SpelledPatterns
 mod SpelledExpressions
 mod SpelledItems
+mod ReadCommon
+mod ReadTypes
+mod Starts
+mod ReadPaths
+mod ReadPatterns
+mod ReadLevels
+mod ReadExpressions
+mod ReadItems
