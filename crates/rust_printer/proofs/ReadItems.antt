@@ -25,7 +25,7 @@ use Rattle.rust_printer.specs.Tokens.{names_tokens, lifetimes_tokens, generics_t
 use Rattle.rust_printer.specs.Bare.{nowhere, bare_ident, bare_written, bare_block, bare_result, bare_types, bare_param, bare_field, bare_fields, bare_variant, bare_item, bare_program, Same}
 use Rattle.rust_printer.specs.Laid.{Laid}
 use Rattle.rust_printer.specs.Laid as L
-use Rattle.rust_printer.specs.Printable.{IsName, AreNames, AreParams, IsResult, AreFields, HasFields, AreVariants, IsItem, AreItems, IsProgram, AreTypes}
+use Rattle.rust_printer.proofs.Printable.{IsName, AreNames, AreParams, IsResult, AreFields, HasFields, AreVariants, IsItem, AreItems, IsProgram, AreTypes}
 use Rattle.rust_printer.proofs.ReadCommon.{Read, read_by, off, tok}
 use Rattle.rust_printer.proofs.ReadTypes.{at_nowhere, type_read, types_read}
 use Rattle.rust_printer.proofs.ReadExpressions.{block_read}

@@ -14,7 +14,9 @@ use Rattle.source_grammar.specs.declared.part.Listed.TheVariants as Of
 use Rattle.source_grammar.specs.Lexemes.{has_class}
 use Rattle.aen_base.specs.declared.span.Span.{Span}
 use Rattle.rust_ast.specs.Source as s
-use Rattle.source_ways.specs.Operators.{joined, negated}
+use Rattle.source_ways.specs.declared.operations.Join.{Join}
+use Rattle.source_ways.specs.declared.operations.Join.TheVariants as by
+use Rattle.source_ways.specs.Operators.{join_of, joined_by, joined, negated}
 use Rattle.rust_printer.specs.Tok.{Tok, mark, class_of}
 use Rattle.rust_printer.specs.Bare.{bare_expr, nowhere}
 use Rattle.rust_printer.specs.Laid.{Laid}
@@ -103,90 +105,16 @@ leading_of_unary x = leading_top (leading_or (leading_and (leading_compare (lead
   leading_top x = read_by _ (inr (inr (inr (inl refl)))) _ x.rest (R.part x.reads (R.part (R.by _ (inl refl) _ R.nothing) R.nothing)) x.is x.left
 
 -- an operator's node without spans
+joined_by_bare : (join : Join) (span : Span) (a b : s.Expr) → bare_expr (joined_by join span a b) ≡ joined_by join nowhere (bare_expr a) (bare_expr b)
+joined_by_bare by.Either span a b = refl
+joined_by_bare by.Both span a b = refl
+joined_by_bare (by.Compare op) span a b = refl
+joined_by_bare (by.Binary op) span a b = refl
+joined_by_bare (by.Update op) span a b = refl
+joined_by_bare by.Assign span a b = refl
+
 pub joined_bare : (c : Class) (span : Span) (a b : s.Expr) → bare_expr (joined c span a b) ≡ joined c nowhere (bare_expr a) (bare_expr b)
-joined_bare C.IntWord span a b = refl
-joined_bare C.Other span a b = refl
-joined_bare C.Lifetime span a b = refl
-joined_bare C.Elided span a b = refl
-joined_bare C.Integer span a b = refl
-joined_bare C.Digits span a b = refl
-joined_bare C.Text span a b = refl
-joined_bare C.Excluded span a b = refl
-joined_bare C.As span a b = refl
-joined_bare C.Break span a b = refl
-joined_bare C.Continue span a b = refl
-joined_bare C.Else span a b = refl
-joined_bare C.Enum span a b = refl
-joined_bare C.False span a b = refl
-joined_bare C.Fn span a b = refl
-joined_bare C.If span a b = refl
-joined_bare C.Let span a b = refl
-joined_bare C.Loop span a b = refl
-joined_bare C.Match span a b = refl
-joined_bare C.Mut span a b = refl
-joined_bare C.Pub span a b = refl
-joined_bare C.Return span a b = refl
-joined_bare C.Struct span a b = refl
-joined_bare C.True span a b = refl
-joined_bare C.Use span a b = refl
-joined_bare C.While span a b = refl
-joined_bare C.Bool span a b = refl
-joined_bare C.Box span a b = refl
-joined_bare C.Allow span a b = refl
-joined_bare C.Derive span a b = refl
-joined_bare C.Std span a b = refl
-joined_bare C.Mem span a b = refl
-joined_bare C.New span a b = refl
-joined_bare C.Replace span a b = refl
-joined_bare C.Swap span a b = refl
-joined_bare C.Panic span a b = refl
-joined_bare C.Unreachable span a b = refl
-joined_bare C.Assert span a b = refl
-joined_bare C.ShlEquals span a b = refl
-joined_bare C.ShrEquals span a b = refl
-joined_bare C.Colons span a b = refl
-joined_bare C.Arrow span a b = refl
-joined_bare C.Gives span a b = refl
-joined_bare C.EqualsEquals span a b = refl
-joined_bare C.NotEquals span a b = refl
-joined_bare C.LessEquals span a b = refl
-joined_bare C.GreaterEquals span a b = refl
-joined_bare C.AndAnd span a b = refl
-joined_bare C.BarBar span a b = refl
-joined_bare C.Shl span a b = refl
-joined_bare C.Shr span a b = refl
-joined_bare C.PlusEquals span a b = refl
-joined_bare C.MinusEquals span a b = refl
-joined_bare C.StarEquals span a b = refl
-joined_bare C.SlashEquals span a b = refl
-joined_bare C.PercentEquals span a b = refl
-joined_bare C.AndEquals span a b = refl
-joined_bare C.BarEquals span a b = refl
-joined_bare C.CaretEquals span a b = refl
-joined_bare C.Plus span a b = refl
-joined_bare C.Minus span a b = refl
-joined_bare C.Star span a b = refl
-joined_bare C.Slash span a b = refl
-joined_bare C.Percent span a b = refl
-joined_bare C.And span a b = refl
-joined_bare C.Bar span a b = refl
-joined_bare C.Caret span a b = refl
-joined_bare C.Not span a b = refl
-joined_bare C.Equals span a b = refl
-joined_bare C.Less span a b = refl
-joined_bare C.Greater span a b = refl
-joined_bare C.OpenBracket span a b = refl
-joined_bare C.CloseBracket span a b = refl
-joined_bare C.OpenBrace span a b = refl
-joined_bare C.CloseBrace span a b = refl
-joined_bare C.OpenSquare span a b = refl
-joined_bare C.CloseSquare span a b = refl
-joined_bare C.Comma span a b = refl
-joined_bare C.Semicolon span a b = refl
-joined_bare C.Colon span a b = refl
-joined_bare C.Dot span a b = refl
-joined_bare C.Hash span a b = refl
-joined_bare C.Wild span a b = refl
+joined_bare c span a b = joined_by_bare (join_of c) span a b
 
 pub two_product : {x y : s.Expr} {t : Tok} {ts us more : List Tok} {ls : List Lexeme} (a : Read (N.Unary At.Free) (Is x) us ls) (o : Off t ts a.rest) →
     has_class T.ProductOp (class_of t) ≡ true → (b : Read (N.Unary At.Free) (Is y) more o.rest) → Read (N.Expression At.Free) (Is (joined (class_of t) nowhere x y)) more ls

@@ -24,7 +24,7 @@ use Rattle.rust_printer.specs.Tok.{Tok, mark, named}
 use Rattle.rust_printer.specs.TypeTokens.{types_tokens, turbo_tokens, path_tokens, std_tokens}
 use Rattle.rust_printer.specs.Bare.{bare_ident, bare_turbo, bare_path, bare_writtens, bare_expr, bare_exprs, bare_inits, nowhere}
 use Rattle.rust_printer.specs.Laid.{Laid}
-use Rattle.rust_printer.specs.Printable.{IsName, IsTurbo, IsPath, IsNoBuiltIn}
+use Rattle.rust_printer.proofs.Printable.{IsName, IsTurbo, IsPath, IsNoBuiltIn}
 use Rattle.rust_printer.proofs.ReadCommon.{Read, read_by, Off, off, tok, tok_end}
 use Rattle.rust_printer.proofs.ReadTypes.{at_nowhere, in_angles_read}
 use Rattle.rust_printer.proofs.Starts.{Start, plain_start, mem_start, std_start, panic_start, assert_start, start, mem_or_not}

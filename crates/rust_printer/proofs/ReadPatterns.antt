@@ -26,7 +26,7 @@ use Rattle.rust_printer.specs.TypeTokens.{path_tokens}
 use Rattle.rust_printer.specs.PatternTokens.{pattern_tokens, field_pattern_tokens, patterns_tokens, field_patterns_tokens}
 use Rattle.rust_printer.specs.Bare.{bare_ident, bare_path, bare_writtens, bare_pat, bare_fieldpat, bare_pats, bare_fieldpats, nowhere}
 use Rattle.rust_printer.specs.Laid.{Laid}
-use Rattle.rust_printer.specs.Printable.{IsName, IsPath, IsNoBuiltIn, IsPattern, IsFieldPattern, ArePatterns, AreFieldPatterns}
+use Rattle.rust_printer.proofs.Printable.{IsName, IsPath, IsNoBuiltIn, IsPattern, IsFieldPattern, ArePatterns, AreFieldPatterns}
 use Rattle.rust_printer.proofs.ReadCommon.{Read, read_by, Off, off, tok, tok_end}
 use Rattle.rust_printer.proofs.ReadTypes.{at_nowhere, in_angles_read}
 use Rattle.rust_printer.proofs.Starts.{PatternStart, plain_pattern, mem_pattern, std_pattern, pattern_start, mem_or_not}

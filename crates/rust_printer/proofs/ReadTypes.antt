@@ -16,7 +16,7 @@ use Rattle.rust_printer.specs.WordTokens.{mut_tokens}
 use Rattle.rust_printer.specs.TypeTokens.{lifetime_tokens, type_tokens, arguments_tokens, types_tokens}
 use Rattle.rust_printer.specs.Bare.{bare_lifetime, bare_written, bare_writtens, nowhere}
 use Rattle.rust_printer.specs.Laid.{Laid}
-use Rattle.rust_printer.specs.Printable.{IsName, IsType, AreTypes, AreTwoTypes}
+use Rattle.rust_printer.proofs.Printable.{IsName, IsType, AreTypes, AreTwoTypes}
 use Rattle.rust_printer.proofs.ReadCommon.{Read, read_by, off, tok, tok_end}
 
 -- a name that stands nowhere

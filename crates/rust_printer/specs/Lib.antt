@@ -12,4 +12,4 @@ pub mod PatternTokens
 pub mod ExpressionTokens
 pub mod Tokens
 pub mod Laid
-pub mod Printable
+pub mod ReadFrom
