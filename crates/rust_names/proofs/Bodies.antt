@@ -1,5 +1,5 @@
 -- Steps of arms, blocks, `let` and `if let`: where one fails, and what they give together.
-use Rattle.std.proofs.Common.{◌≡◌, ℕ, Bool, false, List, length, Option, refl, sym, ap, subst, ◌∙◌}
+use Rattle.std.proofs.Common.{◌≡◌, ℕ, Bool, false, length, sym, ap, subst, ◌∙◌}
 use Rattle.std.specs.Prelude.{Result, Ok, Err, IsErrAnd}
 use Rattle.aen_base.specs.declared.span.Span.{Span}
 use Rattle.rust_ast.specs.Source as s

@@ -1,10 +1,9 @@
 -- What the parts of an item give together.
-use Rattle.std.proofs.Common.{◌≡◌, List, ℕ, Option, refl, sym, ap, subst, ◌∙◌}
+use Rattle.std.proofs.Common.{◌≡◌, List, ℕ, Option, sym, ap, subst, ◌∙◌}
 use Rattle.std.specs.Prelude.{Result, Ok, Err}
 use Rattle.aen_base.specs.declared.span.Span.{Span}
 use Rattle.rust_ast.specs.Resolved as r
 use Rattle.rust_ast.specs.Written as w
-use Rattle.rust_ast.specs.declared.ident.Ident.{Ident}
 use Rattle.rust_ast.specs.declared.program.Enum as enums
 use Rattle.rust_ast.specs.declared.program.Function as functions
 use Rattle.rust_ast.specs.declared.program.Param.{Param}

@@ -5,7 +5,7 @@ use Rattle.rust_ast.specs.Written as w
 use Rattle.rust_names.specs.declared.tables.Tables.{Tables}
 use Rattle.rust_names.specs.declared.tables.Generics.{Generics}
 use Rattle.rust_names.specs.TypeUses.{read_type, read_types}
-use Rattle.rust_names.specs.Walks.{on_ok, each, behind}
+use Rattle.rust_names.specs.Walks.{on_ok, each}
 use Rattle.rust_names.proofs.Walking.{each_form}
 
 pub type_item : (xs : List s.Written) (i : ℕ) (x : s.Written) → i < length xs → x ≡ get_or xs i x → s.nodes_written x < s.nodes_writtens (s.writtens xs)

@@ -1,6 +1,6 @@
 -- What a program with names resolved has: functions whose names differ, with few variables each
 -- (LANGUAGE.md, "Names").
-use Rattle.std.proofs.Common.{◌≡◌, refl, sym, subst, ap, ◌∙◌, ℕ, suc, ◌<◌, ◌≤◌, Bool, true, false, List, [], ◌∷◌, ◌++◌, length, map, Option, Some, None, Result, Ok, Err, ◌⊎◌, inl, inr, arith}
+use Rattle.std.proofs.Common.{◌≡◌, refl, sym, subst, ap, ◌∙◌, ℕ, ◌≤◌, Bool, true, false, List, [], ◌∷◌, ◌++◌, length, map, Option, Some, None, Result, Ok, Err, ◌⊎◌, inl, inr}
 use Rattle.std.proofs.lemmas.Bool.{ltb-false}
 use Rattle.std.proofs.lemmas.List.{append-nil}
 use Rattle.std.proofs.lemmas.Slice.Eq.{bytes_eq-Decides}
@@ -8,11 +8,8 @@ use Rattle.std.specs.Prelude.{◌&&◌, ◌||◌, if◌then◌else◌, nat_lt, b
 use Rattle.aen_base.specs.declared.span.Span.{Span}
 use Rattle.rust_ast.specs.declared.program.Program.{Program}
 use Rattle.rust_ast.specs.declared.program.Function as functions
-use Rattle.rust_ast.specs.declared.program.Struct as structs
-use Rattle.rust_ast.specs.declared.program.Enum as enums
 use Rattle.rust_ast.specs.declared.program.Item.{Item}
 use Rattle.rust_ast.specs.declared.program.Item.TheVariants.{Function, Struct, Enum, UseMem}
-use Rattle.rust_ast.specs.declared.resolution.Declared.{Declared}
 use Rattle.rust_ast.specs.declared.resolution.Function as resolved
 use Rattle.rust_ast.specs.declared.resolution.Resolved.{Resolved}
 use Rattle.rust_names.specs.declared.entry.Entry.{Entry}

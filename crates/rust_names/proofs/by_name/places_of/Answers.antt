@@ -1,4 +1,4 @@
-use Rattle.std.proofs.Common.{arith, bytes_eq, ◌≡◌, ◌<◌, length}
+use Rattle.std.proofs.Common.{arith, bytes_eq, ◌<◌, length}
 use Rattle.indexmap.specs.IndexMap.{get}
 use Rattle.rust_names.proofs.Placing.{entered}
 use Rattle.rust_names.proofs.by_name.places_of.Goals as goal

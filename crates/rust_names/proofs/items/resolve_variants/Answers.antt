@@ -1,4 +1,4 @@
-use Rattle.std.proofs.Common.{◌≡◌, ap, sym, ◌∙◌}
+use Rattle.std.proofs.Common.{ap, sym, ◌∙◌}
 use Rattle.rust_names.specs.Resolution.{read_variants}
 use Rattle.rust_names.specs.Walks.{behind}
 use Rattle.rust_names.proofs.Walking.{behind_nothing}

@@ -1,4 +1,4 @@
-use Rattle.std.proofs.Common.{◌≡◌, ap, sym, ◌∙◌, arith}
+use Rattle.std.proofs.Common.{ap, sym, ◌∙◌, arith}
 use Rattle.rust_ast.specs.Patterns as p
 use Rattle.rust_names.specs.PatternUses.{read_pat, read_field}
 use Rattle.rust_names.specs.Walks.{on_ok, walk, onward, in_form}

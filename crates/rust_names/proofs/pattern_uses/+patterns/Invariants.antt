@@ -1,4 +1,4 @@
-use Rattle.std.proofs.Common.{◌≡◌, ◌+◌, ◌*◌, drop}
+use Rattle.std.proofs.Common.{◌≡◌, ◌*◌, drop}
 use Rattle.rust_ast.specs.SourcePatterns as s
 use Rattle.rust_ast.specs.Patterns as p
 use Rattle.rust_names.specs.PatternUses.{read_pat, read_pats, read_field, read_fields}

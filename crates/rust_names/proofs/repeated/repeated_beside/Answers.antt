@@ -1,7 +1,7 @@
-use Rattle.std.proofs.Common.{◌≡◌, ◌<◌, [], map, length, bytes_eq, arith}
+use Rattle.std.proofs.Common.{◌<◌, [], map, length, bytes_eq, arith}
 use Rattle.indexmap.specs.IndexMap.{get}
 use Rattle.rust_names.specs.Twice.{repeated_parameter}
-use Rattle.rust_names.proofs.Repeating.{next_first, turn, turns_end}
+use Rattle.rust_names.proofs.Repeating.{next_first, turn}
 use Rattle.rust_names.proofs.repeated.repeated_beside.Goals as goal
 
 pub loop-i-preserved : goal.loop-i-preserved

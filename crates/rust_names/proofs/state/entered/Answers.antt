@@ -1,4 +1,4 @@
-use Rattle.std.proofs.Common.{◌≡◌, ℕ, ◌+◌, List, [], ◌∷◌, ◌++◌, ap, sym, ◌∙◌, arith}
+use Rattle.std.proofs.Common.{◌≡◌, ◌+◌, [], ◌∷◌, ◌++◌, ap, sym, ◌∙◌, arith}
 use Rattle.rust_names.specs.Scopes.{with_variables}
 use Rattle.rust_names.proofs.Entering.{enters, enters_none, enters_all}
 use Rattle.rust_names.proofs.state.entered.Goals as goal

@@ -1,4 +1,4 @@
-use Rattle.std.proofs.Common.{[], length, arith}
+use Rattle.std.proofs.Common.{[], arith}
 use Rattle.rust_names.specs.Twice.{twice_in_items}
 use Rattle.rust_names.proofs.Repeating.{items_turn, items_end}
 use Rattle.rust_names.proofs.twice.twice_in_items.Goals as goal

@@ -1,4 +1,4 @@
-use Rattle.std.proofs.Common.{◌≡◌, ap, sym, ◌∙◌, arith}
+use Rattle.std.proofs.Common.{ap, sym, ◌∙◌, arith}
 use Rattle.rust_ast.specs.Written as written
 use Rattle.rust_names.specs.TypeUses.{read_type}
 use Rattle.rust_names.specs.Walks.{on_ok, each, behind}

@@ -1,4 +1,4 @@
-use Rattle.std.proofs.Common.{◌≡◌, ◌+◌, ◌*◌, drop}
+use Rattle.std.proofs.Common.{◌≡◌, ◌*◌, drop}
 use Rattle.rust_ast.specs.SourceTypes.{writtens, nodes_written, nodes_writtens}
 use Rattle.rust_ast.specs.Written as w
 use Rattle.rust_names.specs.TypeUses.{read_type, read_types}

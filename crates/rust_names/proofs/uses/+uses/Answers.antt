@@ -1,4 +1,4 @@
-use Rattle.std.proofs.Common.{◌≡◌, ◌+◌, List, length, drop, ap, sym, ◌∙◌, arith}
+use Rattle.std.proofs.Common.{◌+◌, length, drop, ap, sym, ◌∙◌, arith}
 use Rattle.std.specs.Prelude.{Ok, false}
 use Rattle.rust_ast.specs.Resolved as r
 use Rattle.rust_ast.specs.Source as s

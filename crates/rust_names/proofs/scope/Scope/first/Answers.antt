@@ -1,5 +1,4 @@
-use Rattle.std.proofs.Common.{◌≡◌, ◌-◌, ◌∙◌, sym, ap, length, take, arith}
-use Rattle.std.proofs.lemmas.List.{length-take-le}
+use Rattle.std.proofs.Common.{◌-◌, ◌∙◌, sym, ap, length, take, arith}
 use Rattle.rust_names.proofs.ScopeTables.{take_all, take_take}
 use Rattle.rust_names.proofs.scope.Scope.first.Goals as goal
 
