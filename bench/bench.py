@@ -50,7 +50,7 @@ def many_lets(size):
     parts, length, k = [], 0, 0
     while True:
         lets = [f"    let y{j} = x + {'y%d' % (j - 1) if j else 'x'};\n" for j in range(900)]
-        text = f"fn f{k}(x: u32) -> u32 {{\n{''.join(lets)}    y899 }}\n"
+        text = f"fn lets{k}(x: u32) -> u32 {{\n{''.join(lets)}    y899 }}\n"
         if length + len(text) > size:
             return "".join(parts)
         parts.append(text)
