@@ -2,8 +2,8 @@
 """agree_sources.py PROGRAM --generator GEN --reference REF [--count K] [--seed N]
 
 Random sources, cut after a byte or with tokens deleted, doubled or replaced, outside the gate. Where
-the program's `translate` or another implementation's `check` refuses one before its names (statuses
-4 to 6, and 10 of source, nesting, depth and else), both must give the same line. It needs a generator
+the program's `translate` or another implementation's `check` refuses one before its types (statuses
+4 to 7, and 10 of the limits of reading and names), both must give the same line. It needs a generator
 and a reference that the repository doesn't hold: GEN writes NAME.rs into the folder after --out.
 """
 import argparse
@@ -16,16 +16,22 @@ import subprocess
 import tempfile
 
 SETS = ["all", "pure", "loops"]
-LIMITS = ["source", "nesting", "depth", "else"]
+LIMITS = ["source", "nesting", "depth", "else", "functions", "variables"]
 TOKENS = """fn { } ( ) > >> >>= < && if match let else struct impl é " /* 0x 1u33 ' .. => :: mut return #
 340282366920938463463374607431768211456""".split()
+WORDS = """fn let mut if else match while loop return struct enum true false use std mem pub as break
+continue u8 u32 i32 u64 i64 bool""".split()
 
 
 def changed(source):
-    """The source cut, or with one or two tokens deleted, doubled or replaced."""
+    """The source cut, with a name in another's place, or with one or two tokens deleted, doubled or replaced."""
     if random.random() < 0.2:
         return source[: random.randrange(len(source) + 1)]
     parts = re.findall(r"\w+|\s+|[^\w\s]", source)
+    names = [at for at, part in enumerate(parts) if re.fullmatch(r"[a-z_]\w*", part) and part not in WORDS]
+    if len(names) > 1 and random.random() < 0.5:
+        parts[random.choice(names)] = parts[random.choice(names)]
+        return "".join(parts)
     for _ in range(random.randint(1, 2)):
         place = random.randrange(len(parts))
         parts[place] = random.choice(["", parts[place] * 2, f" {random.choice(TOKENS)} "])
@@ -38,8 +44,8 @@ def answer(words):
 
 
 def is_early(status, line):
-    """Whether a source is refused before its names are looked at."""
-    return status in (4, 5, 6) or (status == 10 and line.split()[3] in LIMITS)
+    """Whether a source is refused before its types are looked at."""
+    return status in (4, 5, 6, 7) or (status == 10 and line.split()[3] in LIMITS)
 
 
 def main():
