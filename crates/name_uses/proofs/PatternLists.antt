@@ -1,5 +1,5 @@
--- Patterns in a list have fewer nodes than the list; to resolve a list is to resolve each of its patterns.
-use Rattle.std.proofs.Common.{◌≡◌, ℕ, zero, suc, ◌<◌, Bool, List, [], ◌∷◌, length, get_or, refl, arith}
+-- To resolve a list of patterns is to resolve each of them.
+use Rattle.std.proofs.Common.{◌≡◌, Bool, List, [], ◌∷◌, refl}
 use Rattle.rust_ast.specs.SourcePatterns as s
 use Rattle.rust_ast.specs.Patterns as p
 use Rattle.name_tables.specs.declared.tables.Tables.{Tables}

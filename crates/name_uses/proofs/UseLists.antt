@@ -1,5 +1,5 @@
--- Parts in a list have fewer nodes than the list; to resolve a list is to resolve each of its parts.
-use Rattle.std.proofs.Common.{◌≡◌, ℕ, zero, suc, ◌<◌, false, List, [], ◌∷◌, length, get_or, refl, arith}
+-- To resolve a list of parts is to resolve each of them.
+use Rattle.std.proofs.Common.{◌≡◌, ℕ, false, List, [], ◌∷◌, length, refl}
 use Rattle.aen_base.specs.declared.span.Span.{Span}
 use Rattle.rust_ast.specs.Source as s
 use Rattle.rust_ast.specs.SourcePatterns as sp

@@ -1,31 +1,10 @@
--- A turn of a walk through a list, its end, and a step that fails.
-use Rattle.std.proofs.Common.{◌≡◌, ℕ, zero, suc, ◌+◌, ◌<◌, ◌≤◌, List, [], ◌∷◌, ◌++◌, length, get_or, drop, refl, ap, sym, ◌∙◌, arith}
+-- The start and a turn of a walk through a list; lists of another form.
+use Rattle.std.proofs.Common.{◌≡◌, ℕ, ◌+◌, ◌<◌, List, [], ◌∷◌, ◌++◌, length, get_or, drop, refl, ap, ◌∙◌}
 use Rattle.std.specs.Prelude.{Result, Ok, Err}
 use Rattle.aen_base.specs.declared.span.Span.{Span}
-use Rattle.name_tables.specs.ListLemmas.{drop_at, drop_all, with_nothing, put_behind}
+use Rattle.name_tables.specs.ListLemmas.{drop_at, put_behind}
 use Rattle.name_tables.specs.Lookups.{and_then}
-use Rattle.name_uses.specs.Walks.{on_ok, each, walk, behind, onward, in_form}
-
-module _ {A B : Type 0} (step : A → Result B Span) where
-  each_more : (done : List B) (y : B) (o : Result (List B) Span) → behind done (and_then o (λ ys. Ok (y ∷ ys))) ≡ behind (done ++ y ∷ []) o
-  each_more done y (Ok ys) = ap Ok (put_behind done y ys)
-  each_more done y (Err p) = refl
-
-  each_next : (xs : List A) (x : A) (o : Result B Span) → step x ≡ o → each step (x ∷ xs) ≡ and_then o (λ y. and_then (each step xs) (λ ys. Ok (y ∷ ys)))
-  each_next xs x o h = ap (λ z. and_then z (λ y. and_then (each step xs) (λ ys. Ok (y ∷ ys)))) h
-
-  pub each_turn : (xs : List A) (i : ℕ) (done : List B) (x : A) (y : B) → i < length xs → x ≡ get_or xs i x → step x ≡ Ok y →
-      behind done (each step (drop i xs)) ≡ behind (done ++ y ∷ []) (each step (drop (i + 1) xs))
-  each_turn xs i done x y h q e =
-      ap (λ zs. behind done (each step zs)) (drop_at xs i x h q) ∙ ap (behind done) (each_next (drop (i + 1) xs) x (Ok y) e) ∙ each_more done y (each step (drop (i + 1) xs))
-
-  pub each_fails : (xs : List A) (i : ℕ) (done : List B) (x : A) (p : Span) → i < length xs → x ≡ get_or xs i x → step x ≡ Err p →
-      behind done (each step (drop i xs)) ≡ Err p
-  each_fails xs i done x p h q e =
-      ap (λ zs. behind done (each step zs)) (drop_at xs i x h q) ∙ ap (behind done) (each_next (drop (i + 1) xs) x (Err p) e)
-
-  pub each_ends : (xs : List A) (i : ℕ) (done : List B) → length xs ≤ i → behind done (each step (drop i xs)) ≡ Ok done
-  each_ends xs i done h = ap (λ zs. behind done (each step zs)) (drop_all xs i h) ∙ ap Ok (with_nothing done)
+use Rattle.name_uses.specs.Walks.{on_ok, walk, onward, in_form}
 
 module _ {A B S : Type 0} (step : A → S → Result (B × S) Span) where
   pub walk_start : (o : Result (List B × S) Span) → onward [] o ≡ o
@@ -43,14 +22,6 @@ module _ {A B S : Type 0} (step : A → S → Result (B × S) Span) where
       onward done (walk step (drop i xs) st) ≡ onward (done ++ y ∷ []) (walk step (drop (i + 1) xs) st2)
   walk_turn xs i done st x y st2 h q e =
       ap (λ zs. onward done (walk step zs st)) (drop_at xs i x h q) ∙ ap (onward done) (walk_next (drop (i + 1) xs) x st (Ok (y, st2)) e) ∙ walk_more done y (walk step (drop (i + 1) xs) st2)
-
-  pub walk_fails : (xs : List A) (i : ℕ) (done : List B) (st : S) (x : A) (p : Span) → i < length xs → x ≡ get_or xs i x → step x st ≡ Err p →
-      onward done (walk step (drop i xs) st) ≡ Err p
-  walk_fails xs i done st x p h q e =
-      ap (λ zs. onward done (walk step zs st)) (drop_at xs i x h q) ∙ ap (onward done) (walk_next (drop (i + 1) xs) x st (Err p) e)
-
-  pub walk_ends : (xs : List A) (i : ℕ) (done : List B) (st : S) → length xs ≤ i → onward done (walk step (drop i xs) st) ≡ Ok (done, st)
-  walk_ends xs i done st h = ap (λ zs. onward done (walk step zs st)) (drop_all xs i h) ∙ ap (λ zs. Ok (zs, st)) (with_nothing done)
 
 -- a list of another form, made item by item
 each_by : {B L : Type 0} (more : B → L → L) (form : List B → L) → ((y : B) (ys : List B) → more y (form ys) ≡ form (y ∷ ys)) →

@@ -1,7 +1,8 @@
 //! Expressions, statements and blocks with names resolved.
 
-ghost use Rattle.std.specs.Prelude.{false, length};
+ghost use Rattle.std.specs.Prelude.{◌≡◌, false, length};
 ghost use Rattle.rust_ast.specs.Resolved as resolved;
+ghost use Rattle.rust_ast.specs.ResolvedView as view;
 ghost use Rattle.rust_ast.specs.Source as source;
 ghost use Rattle.rust_ast.specs.SourceTypes as types;
 ghost use Rattle.name_tables.specs.Gives.{Gives, GivesAs};
@@ -35,34 +36,29 @@ pub(crate) fn resolve_expr(
     match &e.node {
         source::ExprNode::Number(span, negative, magnitude, suffix) => {
             let node = ExprNode::Number(*span, *negative, *magnitude, *suffix);
-            Ok((Expr { node }, state))
+            Ok((expr(node), state))
         }
         source::ExprNode::Truth(span, value) => {
-            let node = ExprNode::Truth(*span, *value);
-            Ok((Expr { node }, state))
+            Ok((expr(ExprNode::Truth(*span, *value)), state))
         }
         source::ExprNode::Tuple(span, parts) => {
             let (parts, state) = resolve_all(alloc, tables, generics, parts.as_slice(), state)?;
-            let node = ExprNode::Tuple(*span, parts);
-            Ok((Expr { node }, state))
+            Ok((expr(ExprNode::Tuple(*span, parts)), state))
         }
         source::ExprNode::Inner(block) => {
             let (block, state) = boxed_block(alloc, tables, generics, block.get(), state)?;
-            let node = ExprNode::Inner(block);
-            Ok((Expr { node }, state))
+            Ok((expr(ExprNode::Inner(block)), state))
         }
         source::ExprNode::Branch(span, condition, yes, no) => {
             let (condition, state) = one(alloc, tables, generics, condition.get(), state)?;
             let (yes, state) = boxed_block(alloc, tables, generics, yes.get(), state)?;
             let (no, state) = one(alloc, tables, generics, no.get(), state)?;
-            let node = ExprNode::Branch(*span, condition, yes, no);
-            Ok((Expr { node }, state))
+            Ok((expr(ExprNode::Branch(*span, condition, yes, no)), state))
         }
         source::ExprNode::Select(span, scrutinee, arms) => {
             let (scrutinee, state) = one(alloc, tables, generics, scrutinee.get(), state)?;
             let (arms, state) = resolve_arms(alloc, tables, generics, arms.as_slice(), state)?;
-            let node = ExprNode::Select(*span, scrutinee, arms);
-            Ok((Expr { node }, state))
+            Ok((expr(ExprNode::Select(*span, scrutinee, arms)), state))
         }
         source::ExprNode::LetBranch(span, pat, a, b, c) => {
             let parts = LetBranch {
@@ -78,12 +74,9 @@ pub(crate) fn resolve_expr(
             let state = state.with_loop()?;
             let (body, state) = boxed_block(alloc, tables, generics, body.get(), state)?;
             let node = ExprNode::Forever(*span, number, *is_while, body);
-            Ok((Expr { node }, state))
+            Ok((expr(node), state))
         }
-        source::ExprNode::Panic(span) => {
-            let node = ExprNode::Panic(*span);
-            Ok((Expr { node }, state))
-        }
+        source::ExprNode::Panic(span) => { Ok((expr(ExprNode::Panic(*span)), state)) }
         source::ExprNode::Path(span, path) => {
             let value = value_path(alloc, tables, generics, &state.scope, *span, path)?;
             Ok((value, state))
@@ -95,91 +88,80 @@ pub(crate) fn resolve_expr(
             let (arguments, state) = resolve_all(alloc, tables, generics, arguments, state)?;
             let turbos = beside(called.turbos, turbo);
             let node = ExprNode::Call(*span, called.callee, turbos, arguments);
-            Ok((Expr { node }, state))
+            Ok((expr(node), state))
         }
         source::ExprNode::Literal(span, name, turbo, values) => {
             let id = struct_of(tables, name)?;
             let turbos = turbos(alloc, tables, generics, turbo)?;
             let (values, state) = resolve_inits(alloc, tables, generics, values.as_slice(), state)?;
-            let node = ExprNode::Literal(*span, id, 0, turbos, values);
-            Ok((Expr { node }, state))
+            Ok((expr(ExprNode::Literal(*span, id, 0, turbos, values)), state))
         }
         source::ExprNode::Field(span, a, place, name) => {
             let (a, state) = one(alloc, tables, generics, a.get(), state)?;
             let name = name.try_clone(alloc)?;
-            let node = ExprNode::Field(*span, a, *place, name);
-            Ok((Expr { node }, state))
+            Ok((expr(ExprNode::Field(*span, a, *place, name)), state))
         }
         source::ExprNode::Minus(span, a) => {
             let (a, state) = one(alloc, tables, generics, a.get(), state)?;
-            let node = ExprNode::Minus(*span, a);
-            Ok((Expr { node }, state))
+            Ok((expr(ExprNode::Minus(*span, a)), state))
         }
         source::ExprNode::Negation(span, a) => {
             let (a, state) = one(alloc, tables, generics, a.get(), state)?;
-            let node = ExprNode::Negation(*span, a);
-            Ok((Expr { node }, state))
+            Ok((expr(ExprNode::Negation(*span, a)), state))
         }
         source::ExprNode::Deref(span, a) => {
             let (a, state) = one(alloc, tables, generics, a.get(), state)?;
-            let node = ExprNode::Deref(*span, a);
-            Ok((Expr { node }, state))
+            Ok((expr(ExprNode::Deref(*span, a)), state))
         }
         source::ExprNode::Borrow(span, mutable, a) => {
             let (a, state) = one(alloc, tables, generics, a.get(), state)?;
-            let node = ExprNode::Borrow(*span, *mutable, a);
-            Ok((Expr { node }, state))
+            Ok((expr(ExprNode::Borrow(*span, *mutable, a)), state))
         }
         source::ExprNode::Binary(span, op, a, b) => {
             let ((a, b), state) = two(alloc, tables, generics, a.get(), b.get(), state)?;
-            let node = ExprNode::Binary(*span, *op, a, b);
-            Ok((Expr { node }, state))
+            Ok((expr(ExprNode::Binary(*span, *op, a, b)), state))
         }
         source::ExprNode::Compare(span, op, a, b) => {
             let ((a, b), state) = two(alloc, tables, generics, a.get(), b.get(), state)?;
-            let node = ExprNode::Compare(*span, *op, a, b);
-            Ok((Expr { node }, state))
+            Ok((expr(ExprNode::Compare(*span, *op, a, b)), state))
         }
         source::ExprNode::Both(span, a, b) => {
             let ((a, b), state) = two(alloc, tables, generics, a.get(), b.get(), state)?;
-            let node = ExprNode::Both(*span, a, b);
-            Ok((Expr { node }, state))
+            Ok((expr(ExprNode::Both(*span, a, b)), state))
         }
         source::ExprNode::Either(span, a, b) => {
             let ((a, b), state) = two(alloc, tables, generics, a.get(), b.get(), state)?;
-            let node = ExprNode::Either(*span, a, b);
-            Ok((Expr { node }, state))
+            Ok((expr(ExprNode::Either(*span, a, b)), state))
         }
         source::ExprNode::Cast(span, a, ty) => {
             let (a, state) = one(alloc, tables, generics, a.get(), state)?;
-            let node = ExprNode::Cast(*span, a, *ty);
-            Ok((Expr { node }, state))
+            Ok((expr(ExprNode::Cast(*span, a, *ty)), state))
         }
         source::ExprNode::Assign(span, a, b) => {
             let ((a, b), state) = two(alloc, tables, generics, a.get(), b.get(), state)?;
-            let node = ExprNode::Assign(*span, a, b);
-            Ok((Expr { node }, state))
+            Ok((expr(ExprNode::Assign(*span, a, b)), state))
         }
         source::ExprNode::Update(span, op, a, b) => {
             let ((a, b), state) = two(alloc, tables, generics, a.get(), b.get(), state)?;
-            let node = ExprNode::Update(*span, *op, a, b);
-            Ok((Expr { node }, state))
+            Ok((expr(ExprNode::Update(*span, *op, a, b)), state))
         }
         source::ExprNode::Give(span, value) => {
             let (value, state) = resolve_maybe(alloc, tables, generics, value, state)?;
-            let node = ExprNode::Give(*span, value);
-            Ok((Expr { node }, state))
+            Ok((expr(ExprNode::Give(*span, value)), state))
         }
         source::ExprNode::Leave(span, value) => {
             let (value, state) = resolve_maybe(alloc, tables, generics, value, state)?;
-            let node = ExprNode::Leave(*span, value);
-            Ok((Expr { node }, state))
+            Ok((expr(ExprNode::Leave(*span, value)), state))
         }
-        source::ExprNode::GoOn(span) => {
-            let node = ExprNode::GoOn(*span);
-            Ok((Expr { node }, state))
-        }
+        source::ExprNode::GoOn(span) => { Ok((expr(ExprNode::GoOn(*span)), state)) }
     }
+}
+
+/// An expression of this node.
+fn expr(node: ExprNode) -> Expr
+    ensures { result ≡ view.expr_of node }
+{
+    Expr { node }
 }
 
 /// Two expressions in boxes, from left to right.
@@ -414,12 +396,10 @@ pub(crate) fn resolve_block(
     ensures { Gives (spec.read_block tables.now generics.now block.now state) result }
 {
     match &block.node {
-        source::BlockNode::Block(span, statements, last) => {
-            let statements = statements.as_slice();
-            let ((statements, last), state) = in_block(
-                alloc, tables, generics, statements, last, state,
-            )?;
-            let node = BlockNode::Block(*span, statements, last);
+        source::BlockNode::Block(span, stmts, last) => {
+            let stmts = stmts.as_slice();
+            let ((stmts, last), state) = in_block(alloc, tables, generics, stmts, last, state)?;
+            let node = BlockNode::Block(*span, stmts, last);
             Ok((Block { node }, state))
         }
     }

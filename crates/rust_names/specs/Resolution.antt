@@ -1,5 +1,5 @@
 -- A program with names resolved, or the first fault of its names (LANGUAGE.md, "Names", "Limits").
-use Rattle.std.specs.Prelude.{ℕ, suc, Bool, true, false, ◌||◌, if◌then◌else◌, List, [], ◌∷◌, ◌++◌, length, map, Option, Some, None, Result, Ok, Err, nat_lt, decimal}
+use Rattle.std.specs.Prelude.{ℕ, suc, Bool, true, false, ◌||◌, if◌then◌else◌, List, [], ◌∷◌, ◌++◌, length, Option, Some, None, Result, Ok, Err, nat_lt, decimal}
 use Rattle.aen_base.specs.declared.span.Span.{Span}
 use Rattle.aen_base.specs.declared.limits.Which.TheVariants.{Functions, Variables}
 use Rattle.rust_ast.specs.SourceTypes as s
