@@ -195,8 +195,8 @@ fn gather(alloc: Global, items: &[Item]) -> Result<Gathered, NoMem>
 ///
 /// # Errors
 ///
-/// `NoMem` for want of memory, or where there are more than 2^32 - 1 functions or 2^32 structs and
-/// enums.
+/// `NoMem` for want of memory, or where there are 2^32 functions, or as many structs and enums before a
+/// struct.
 pub fn tables_of(alloc: Global, items: &[Item]) -> Result<Tables, NoMem>
     ensures { IfOk result (λ t. t ≡ spec.tables_of items.now) }
 {
