@@ -1,0 +1,14 @@
+-- Each arm is the production of its place.
+use Rattle.std.proofs.Common.{refl, reverse}
+use Rattle.table_reader.specs.Building.{can_build_at, built_at}
+use Rattle.aen_base.specs.declared.memory.NoMem.{NoMem}
+use Rattle.text_table.specs.declared.part.Part.TheVariants as N
+use Rattle.raw_values.specs.Carriers.{carrier, held}
+use Rattle.raw_reader.specs.Makes.{made}
+use Rattle.raw_reader.proofs.building.definitions.build_fuel_parameter.Goals as goal
+
+pub only_fuel_parameter-requires : goal.only_fuel_parameter-requires
+only_fuel_parameter-requires c = can_build_at carrier held made N.FuelParameter N.FuelParameter c.args.index 0 (reverse c.args.values.now) refl c.in-eq0.is c.requires
+
+pub returns-in-eq0 : goal.returns-in-eq0
+returns-in-eq0 c = built_at carrier held made N.FuelParameter N.FuelParameter c.args.index 0 (reverse c.args.values.now) (reverse c.only_fuel_parameter.new.values) NoMem c.only_fuel_parameter.result refl c.in-eq0.is c.only_fuel_parameter.ensures
