@@ -1,3 +1,4 @@
 pub mod Words
 pub mod Ways
 pub mod Makes
+pub mod Reading
