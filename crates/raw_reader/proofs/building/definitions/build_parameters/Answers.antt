@@ -1,0 +1,23 @@
+-- What `build_parameters` calls builds the part. Written by tools/text_ways.py.
+use Rattle.std.proofs.Common.{reverse, Ok}
+use Rattle.text_table.specs.declared.part.Part.TheVariants as N
+use Rattle.raw_reader.proofs.Places.{at_place, built_at_place}
+use Rattle.raw_reader.proofs.building.definitions.build_parameters.Goals as goal
+
+pub fields_0-requires : goal.fields_0-requires
+fields_0-requires c =
+    let h = at_place N.Parameters c.args.index 0 (reverse c.args.values.now) c.in-0.is c.requires in
+    record { value = h.value; below = h.below; makes = h.makes }
+
+pub returns-in-0 : goal.returns-in-0
+returns-in-0 c =
+    built_at_place N.Parameters c.args.index 0 (reverse c.args.values.now) (reverse c.fields_0.new.values) (Ok c.fields_0.result) c.in-0.is c.fields_0.ensures
+
+pub fields_1-requires : goal.fields_1-requires
+fields_1-requires c =
+    let h = at_place N.Parameters c.args.index 1 (reverse c.args.values.now) c.in-1.is c.requires in
+    record { value = h.value; below = h.below; makes = h.makes }
+
+pub returns-in-1 : goal.returns-in-1
+returns-in-1 c =
+    built_at_place N.Parameters c.args.index 1 (reverse c.args.values.now) (reverse c.fields_1.new.values) c.fields_1.result c.in-1.is c.fields_1.ensures
