@@ -1,5 +1,5 @@
 -- The first place of several.
-use Rattle.std.proofs.Common.{◌≡◌, List, [], ◌∷◌, ◌++◌, ℕ, Option, Some, refl}
+use Rattle.std.proofs.Common.{◌≡◌, List, [], ◌∷◌, ◌++◌, ℕ, Option, Some}
 use Rattle.aen_base.specs.declared.span.Span.{Span}
 use Rattle.raw_meaning.specs.Rules.{unless_declared}
 use Rattle.text_names.specs.Settled.{first}

@@ -1,5 +1,5 @@
 -- A name has no kind where its function or a number in it is none.
-use Rattle.std.proofs.Common.{◌≡◌, ℕ, Bool, true, false, List, [], ◌∷◌, ◌++◌, Option, Some, None, refl}
+use Rattle.std.proofs.Common.{◌≡◌, ℕ, true, List, [], ◌∷◌, ◌++◌, Option, Some, None, refl}
 use Rattle.std.specs.Prelude.{is_some, codes}
 use Rattle.std.specs.Option.{option_map}
 use Rattle.aen_base.specs.declared.span.Span.{Span}

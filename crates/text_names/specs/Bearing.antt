@@ -3,7 +3,7 @@ use Rattle.std.specs.Prelude.{if◌then◌else◌, is_some, bytes_eq}
 use Rattle.std.specs.List.{list_all}
 use Rattle.std.specs.Option.{option_map}
 use Rattle.std.specs.Cmp.Lexicographic.{bytes_decides}
-use Rattle.std.proofs.Common.{◌≡◌, refl, ap, ◌∙◌, ℕ, suc, Bool, true, false, List, [], ◌∷◌, ◌++◌, Option, Some, None}
+use Rattle.std.proofs.Common.{◌≡◌, refl, ℕ, suc, Bool, true, false, List, [], ◌∷◌, ◌++◌, Option, Some, None}
 use Rattle.raw_ast.specs.declared.declarations.Definition.{Definition}
 use Rattle.raw_meaning.specs.Outlines.{is_in, place_of, with_function, functions_after}
 

@@ -30,13 +30,7 @@ pub(crate) fn with_parts<T: Copy>(
 {
     match found {
         None => Err(place),
-        Some((item, parts)) => {
-            if parts == count {
-                Ok(item)
-            } else {
-                Err(place)
-            }
-        }
+        Some((item, parts)) => { if parts == count { Ok(item) } else { Err(place) } }
     }
 }
 
@@ -75,11 +69,7 @@ pub fn operation(operation: &Operation, count: usize) -> Result<Primitive, Span>
     ensures { Settles (rule.operation operation.now count) (trees.with_parts (Some (operation.now.primitive, ranges.arity operation.now.primitive)) count) result }
 {
     let parts = arity(operation.primitive);
-    with_parts(
-        Some((operation.primitive, parts)),
-        count,
-        operation.span,
-    )
+    with_parts(Some((operation.primitive, parts)), count, operation.span)
 }
 
 /// How many parts a primitive has.
