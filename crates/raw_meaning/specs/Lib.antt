@@ -5,3 +5,6 @@ pub mod Rules
 pub mod Faults
 pub mod Trees
 pub mod Wants
+pub mod Shape
+pub mod Named
+pub mod Heads
