@@ -1,0 +1,5 @@
+pub mod BareNames
+pub mod Shapes
+pub mod Symbols
+pub mod Met
+pub mod Readings
