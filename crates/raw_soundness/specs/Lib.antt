@@ -3,3 +3,7 @@ pub mod Shapes
 pub mod Symbols
 pub mod Met
 pub mod Readings
+pub mod Shaping
+pub mod Spelling
+pub mod Kept
+pub mod Spelled
