@@ -1,0 +1,9 @@
+pub mod Classes
+pub mod Rows
+pub mod Lists
+pub mod Numerals
+pub mod Finding
+pub mod Leaves
+pub mod Types
+pub mod Constructors
+pub mod Atoms
