@@ -7,3 +7,8 @@ pub mod Leaves
 pub mod Types
 pub mod Constructors
 pub mod Atoms
+pub mod Names
+pub mod Primitives
+pub mod Patterns
+pub mod Computations
+pub mod Code
