@@ -12,3 +12,7 @@ pub mod Primitives
 pub mod Patterns
 pub mod Computations
 pub mod Code
+pub mod Relating
+pub mod Parameters
+pub mod Variants
+pub mod Declarations
