@@ -1,5 +1,5 @@
 pub mod Numbers
-pub mod Declared
+pub mod Outlines
 pub mod Lookups
 pub mod Rules
 pub mod Faults

@@ -171,9 +171,9 @@ abbrev mutual
 -- ---- declarations
 
 abbrev pub type_parameters_wants : Mark → Mark → List Spelling → Wants → Wants
-type_parameters_wants open close [] rest = rest
-type_parameters_wants open close (s ∷ more) rest =
-    marks open (name s.text ∷ marks Colon (says (codes "Type") (marks close (type_parameters_wants open close more rest))))
+type_parameters_wants left right [] rest = rest
+type_parameters_wants left right (s ∷ more) rest =
+    marks left (name s.text ∷ marks Colon (says (codes "Type") (marks right (type_parameters_wants left right more rest))))
 
 abbrev pub plain_fields_wants : List RawType → Wants → Wants
 plain_fields_wants [] rest = rest

@@ -1,0 +1,5 @@
+pub mod Told
+pub mod Nodes
+pub mod Types
+pub mod Atoms
+pub mod Codes

@@ -1,0 +1,14 @@
+//! From a printed text as it is spelled to its definitions (docs/TEXT.md, "Faults", "Well-formed
+//! definitions"): names are looked up, numbers valued, and the first place is told at which a rule
+//! beside the grammar is broken.
+#![tactic(auto)]
+
+mod atoms;
+mod codes;
+mod computations;
+mod fault;
+mod lists;
+mod rules;
+mod types;
+
+pub use fault::SettleFault;
