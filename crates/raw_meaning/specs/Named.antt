@@ -1,5 +1,4 @@
 -- The names that a text declares are names (TEXT.md, "Names").
-use Rattle.std.specs.Prelude.{List, [], ◌∷◌}
 use Rattle.text_meaning.specs.Lists.{Each}
 use Rattle.text_meaning.specs.Names.{IsName}
 use Rattle.raw_ast.specs.declared.declarations.Declaration.{Declaration}

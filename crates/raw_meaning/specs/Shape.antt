@@ -1,6 +1,6 @@
 -- What the grammar gives besides: products and tuple patterns have two parts or more, tuples none or two or more, and primitives
 -- are those that there are (TEXT.md, "Grammar").
-use Rattle.std.specs.Prelude.{◌≡◌, ℕ, ◌≤◌, List, [], ◌∷◌, length}
+use Rattle.std.specs.Prelude.{◌≡◌, ◌≤◌, List, length}
 use Rattle.text_meaning.specs.Lists.{Each}
 use Rattle.text_meaning.specs.Ranges.{IsPrimitive}
 use Rattle.raw_ast.specs.declared.computation.Computation.{Computation}

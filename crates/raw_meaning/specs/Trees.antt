@@ -1,7 +1,7 @@
 -- The definitions that a text as it is spelled stands for, where it breaks no rule: its names looked up, its numbers valued.
-use Rattle.std.specs.Prelude.{ℕ, zero, suc, ◌==◌, Bool, true, false, if◌then◌else◌, List, [], ◌∷◌, ◌++◌, length, map, Option, Some, None, codes}
+use Rattle.std.specs.Prelude.{ℕ, zero, suc, ◌==◌, Bool, true, false, if◌then◌else◌, List, [], ◌∷◌, ◌++◌, length, Option, Some, None, codes}
 use Rattle.std.specs.Fmt.{decimal}
-use Rattle.std.specs.Option.{option_map, option_and_then}
+use Rattle.std.specs.Option.{option_map}
 use Rattle.pure_ast.specs.declared.comp.Comp.{Comp}
 use Rattle.pure_ast.specs.declared.comp.Comp.TheVariants as comp
 use Rattle.pure_ast.specs.declared.ctor.CtorId.{CtorId}
@@ -22,7 +22,6 @@ use Rattle.text_meaning.specs.Lookups.{Variant as NamedFields}
 use Rattle.text_meaning.specs.Ranges.{arity}
 use Rattle.raw_ast.specs.declared.computation.Computation.{Computation}
 use Rattle.raw_ast.specs.declared.computation.Computation.TheVariants as K
-use Rattle.raw_ast.specs.declared.computation.Operation.{Operation}
 use Rattle.raw_ast.specs.declared.declarations.Declaration.{Declaration}
 use Rattle.raw_ast.specs.declared.declarations.Definition.{Definition}
 use Rattle.raw_ast.specs.declared.declarations.Members.{Members}

@@ -2,8 +2,6 @@
 -- what a production makes wants what its symbols want, by computing.
 use Rattle.std.specs.Prelude.{◌≡◌, ℕ, Bool, true, false, List, [], ◌∷◌, Option, Some, None, codes, pos}
 use Rattle.std.specs.Fmt.{signed_decimal}
-use Rattle.aen_base.specs.declared.int_ty.IntTy.{IntTy}
-use Rattle.pure_ast.specs.declared.comp.Primitive.{Primitive}
 use Rattle.text_meaning.specs.declared.mark.Mark.{Mark}
 use Rattle.text_meaning.specs.declared.mark.Mark.TheVariants.{Open, Close, Unit, OpenBrace, CloseBrace, Colon, Becomes, Comma, Semicolon, Dot, Hash, Bar, Gives, Plus, To, From, Times}
 use Rattle.text_meaning.specs.SpelledNames.{prim_tokens}
