@@ -3,3 +3,5 @@ pub mod Nodes
 pub mod Types
 pub mod Atoms
 pub mod Codes
+pub mod Declarations
+pub mod Definitions

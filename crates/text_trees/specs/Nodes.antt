@@ -1,5 +1,5 @@
--- What is told of one node that has a value.
-use Rattle.std.specs.Prelude.{ℕ, List, Some, Result}
+-- What is told of one node.
+use Rattle.std.specs.Prelude.{ℕ, List, ◌++◌, Some, Result}
 use Rattle.aen_base.specs.declared.int_ty.IntTy.{IntTy}
 use Rattle.aen_base.specs.declared.span.Span.{Span}
 use Rattle.aen_base.specs.Numbers.{Number}
@@ -19,7 +19,7 @@ use Rattle.raw_meaning.specs.Rules as rule
 use Rattle.raw_meaning.specs.Trees.{variable_number, constructor_id, with_parts}
 use Rattle.text_names.specs.declared.name_rules.TypeName.{TypeName}
 use Rattle.text_names.specs.NamedTypes.{type_named}
-use Rattle.text_trees.specs.Told.{told}
+use Rattle.text_trees.specs.Told.{told, kept}
 
 unfoldable pub variable : Spelling → Result ℕ Span
 variable s = told (rule.variable s) (variable_number s)
@@ -44,3 +44,21 @@ operation o count = told (rule.operation o count) (with_parts (Some (o.primitive
 -- a definition's name after definitions of these kinds
 unfoldable pub new_definition : List (List ℕ) → List DefKind → DefinitionName → Result DefKind Span
 new_definition functions kinds name = told (rule.new_definition functions kinds name) (kind_of functions name)
+
+-- ---- nodes without a value
+
+unfoldable pub parameter : ℕ → Spelling → Result Unit Span
+parameter k s = kept (rule.parameter k s)
+
+unfoldable pub new_type : List (List ℕ) → List (List ℕ) → Spelling → Result Unit Span
+new_type types parameters s = kept (rule.new_type types parameters s)
+
+unfoldable pub new_parameter : List (List ℕ) → List (List ℕ) → Spelling → Result Unit Span
+new_parameter types parameters s = kept (rule.new_parameter types parameters s)
+
+unfoldable pub new_member : List (List ℕ) → Spelling → Result Unit Span
+new_member members s = kept (rule.new_member members s)
+
+-- a variant's end and the names after it
+unfoldable pub variant_end : List ℕ → List (List ℕ) → Spelling → List Spelling → Result Unit Span
+variant_end ty parameters end names = kept (rule.variant_end ty parameters end names ++ rule.end_names parameters names)

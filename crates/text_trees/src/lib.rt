@@ -6,9 +6,13 @@
 mod atoms;
 mod codes;
 mod computations;
+mod declarations;
+mod definitions;
 mod fault;
 mod lists;
+mod new_names;
 mod rules;
 mod types;
 
+pub use definitions::definitions_of;
 pub use fault::SettleFault;
