@@ -7,3 +7,8 @@ pub mod Shaping
 pub mod Spelling
 pub mod Kept
 pub mod Spelled
+pub mod Spells
+pub mod NumbersSpelled
+pub mod NamesSpelled
+pub mod TypesSpelled
+pub mod AtomsSpelled
