@@ -12,3 +12,6 @@ pub mod NumbersSpelled
 pub mod NamesSpelled
 pub mod TypesSpelled
 pub mod AtomsSpelled
+pub mod CodeSpelled
+pub mod DeclarationsSpelled
+pub mod DefinitionsSpelled
