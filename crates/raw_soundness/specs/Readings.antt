@@ -22,6 +22,7 @@ use Rattle.text_syntax.specs.Classing.{class_of, lexeme_of, text_of}
 use Rattle.text_syntax.specs.Standing.{is_id}
 use Rattle.raw_values.specs.Carriers.{carrier}
 use Rattle.raw_reader.specs.Makes.{made}
+use Rattle.raw_reader.specs.Reading.{Reads}
 use Rattle.raw_meaning.specs.Wants.{Want, Wants, Meets}
 use Rattle.raw_soundness.specs.BareNames.{bare_name}
 use Rattle.raw_soundness.specs.Met.{met}
@@ -33,9 +34,6 @@ Made n = R.Made Terminal Part Lexeme carrier n
 
 abbrev pub Values : List (Symbol Terminal Part) → Type 0
 Values p = R.Parts Terminal Part Lexeme carrier p
-
-abbrev pub Reads : (n : Part) → List Lexeme → List Lexeme → carrier n → Type 0
-Reads n ls us v = R.Reads takes carrier made n ls us v
 
 abbrev pub ReadsAll : (p : List (Symbol Terminal Part)) → List Lexeme → List Lexeme → Values p → Type 0
 ReadsAll p ls us vs = R.ReadsAll takes carrier made p ls us vs
