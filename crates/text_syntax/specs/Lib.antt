@@ -2,3 +2,4 @@ pub mod Classing
 pub mod Among
 pub mod Kinds
 pub mod Standing
+pub mod Brackets
