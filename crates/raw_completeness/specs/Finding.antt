@@ -78,7 +78,7 @@ function_by d f g h =
     let x = there d.names f h in
     subst (λ (a : List ℕ). place_of d.names a ≡ Some f) (sym (ap or_empty x.1)) (place_of_item d.names x.0 f g x.1)
 
-least : (k : ℕ) (ds : List Def) (count : ℕ) → AreInOrder k ds count → k < suc count
+pub least : (k : ℕ) (ds : List Def) (count : ℕ) → AreInOrder k ds count → k < suc count
 least k [] count h = omega (arith, h)
 least k (x ∷ ds) count (inl h) = least k ds count h.1
 least k (x ∷ ds) count (inr h) = let r = least (suc k) ds count h.1 in omega arith

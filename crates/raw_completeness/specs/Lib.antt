@@ -16,3 +16,6 @@ pub mod Relating
 pub mod Parameters
 pub mod Variants
 pub mod Declarations
+pub mod Definitions
+pub mod Outlined
+pub mod Texts
