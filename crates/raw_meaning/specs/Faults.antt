@@ -21,7 +21,7 @@ use Rattle.raw_ast.specs.Code.{RawCode, RawArms}
 use Rattle.raw_ast.specs.Types as t
 use Rattle.raw_ast.specs.Types.{RawType, RawTypes, rawtypes_list}
 use Rattle.raw_meaning.specs.declared.outline.Outline.{Outline}
-use Rattle.raw_meaning.specs.Declared.{outline_of, kind_of}
+use Rattle.raw_meaning.specs.Outlines.{outline_of, kind_of}
 use Rattle.raw_meaning.specs.Rules as rule
 
 -- ---- types, in a declaration with these type parameters
@@ -131,7 +131,7 @@ definition_faults h types kinds d =
     ++ (values_faults h (texts d.type_parameters) 0 d.parameters
     ++ (type_faults h (texts d.type_parameters) d.result ++ code_faults h d.code)))
 
-abbrev and_kind : List DefKind → Option DefKind → List DefKind
+abbrev pub and_kind : List DefKind → Option DefKind → List DefKind
 and_kind kinds None = kinds
 and_kind kinds (Some kind) = kinds ++ kind ∷ []
 

@@ -1,7 +1,13 @@
 pub mod Numbers
-pub mod Declared
+pub mod Outlines
 pub mod Lookups
 pub mod Rules
 pub mod Faults
 pub mod Trees
 pub mod Wants
+pub mod Shape
+pub mod Named
+pub mod Heads
+pub mod OptionLemmas
+pub mod LookupLemmas
+pub mod HeadLemmas

@@ -10,7 +10,7 @@ use Rattle.raw_meaning.specs.declared.outline.DefinitionHead.{DefinitionHead}
 use Rattle.raw_meaning.specs.declared.outline.Outline.{Outline}
 use Rattle.raw_meaning.specs.declared.outline.TypeHead.{TypeHead}
 use Rattle.raw_meaning.specs.declared.outline.VariantHead.{VariantHead}
-use Rattle.raw_meaning.specs.Declared.{kind_of}
+use Rattle.raw_meaning.specs.Outlines.{kind_of}
 
 -- the first item of this name, with its place
 abbrev pub find : {A : Type 0} → (A → List ℕ) → List A → List ℕ → Option (ℕ × A)

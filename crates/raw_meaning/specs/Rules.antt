@@ -1,5 +1,5 @@
 -- The rules beside the grammar, each on one node of a text as it is spelled: where it is broken, if it is (TEXT.md, "Faults").
-use Rattle.std.specs.Prelude.{◌==◌, ◌&&◌, ◌||◌, not, ℕ, suc, Bool, true, false, if◌then◌else◌, List, [], ◌∷◌, ◌++◌, Option, Some, None, is_some, codes, bytes_eq, length}
+use Rattle.std.specs.Prelude.{◌==◌, ◌&&◌, ◌||◌, not, ℕ, Bool, true, false, if◌then◌else◌, List, [], ◌∷◌, ◌++◌, Option, Some, None, is_some, codes, bytes_eq, length}
 use Rattle.aen_base.specs.declared.int_ty.IntTy.{IntTy}
 use Rattle.aen_base.specs.declared.span.Span.{Span}
 use Rattle.pure_ast.specs.declared.def.DefKind.{DefKind}
@@ -10,7 +10,7 @@ use Rattle.raw_ast.specs.declared.names.Constructor.TheVariants as C
 use Rattle.raw_ast.specs.declared.names.DefinitionName.{DefinitionName}
 use Rattle.raw_ast.specs.declared.spelling.Spelling.{Spelling}
 use Rattle.raw_meaning.specs.declared.outline.Outline.{Outline}
-use Rattle.raw_meaning.specs.Declared.{is_in, part_number, kind_of}
+use Rattle.raw_meaning.specs.Outlines.{is_in, kind_of}
 use Rattle.raw_meaning.specs.Lookups.{type_of, constructor_of, definition_of, same_kind}
 use Rattle.raw_meaning.specs.Numbers.{numbered, number_of}
 
@@ -65,7 +65,7 @@ constructor h (C.Brk span) count = unless (count == 1) span
 constructor h (C.Ret span) count = unless (count == 1) span
 
 -- the place of the last token of a definition's name
-abbrev or_place : Option Spelling → Span → Span
+abbrev pub or_place : Option Spelling → Span → Span
 or_place None place = place
 or_place (Some s) place = s.span
 
@@ -73,7 +73,7 @@ abbrev pub last_place : DefinitionName → Span
 last_place n = or_place n.back (or_place n.turn n.function.span)
 
 -- a definition bears the function's name, the name's numbers are numbers, and it is declared with as many parameters
-abbrev unless_declared : List Span → Option (ℕ × ℕ) → ℕ → Span → List Span
+abbrev pub unless_declared : List Span → Option (ℕ × ℕ) → ℕ → Span → List Span
 unless_declared [] found count place = unless_parts found count place
 unless_declared (p ∷ ps) found count place = p ∷ ps
 

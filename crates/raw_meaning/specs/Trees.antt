@@ -1,8 +1,7 @@
 -- The definitions that a text as it is spelled stands for, where it breaks no rule: its names looked up, its numbers valued.
-use Rattle.std.specs.Prelude.{ℕ, zero, suc, ◌==◌, Bool, true, false, if◌then◌else◌, List, [], ◌∷◌, length, map, Option, Some, None, codes}
+use Rattle.std.specs.Prelude.{ℕ, zero, suc, ◌==◌, Bool, true, false, if◌then◌else◌, List, [], ◌∷◌, ◌++◌, length, Option, Some, None, codes}
 use Rattle.std.specs.Fmt.{decimal}
-use Rattle.std.specs.Option.{option_map, option_and_then}
-use Rattle.std.proofs.Common.{◌++◌}
+use Rattle.std.specs.Option.{option_map}
 use Rattle.pure_ast.specs.declared.comp.Comp.{Comp}
 use Rattle.pure_ast.specs.declared.comp.Comp.TheVariants as comp
 use Rattle.pure_ast.specs.declared.ctor.CtorId.{CtorId}
@@ -23,7 +22,6 @@ use Rattle.text_meaning.specs.Lookups.{Variant as NamedFields}
 use Rattle.text_meaning.specs.Ranges.{arity}
 use Rattle.raw_ast.specs.declared.computation.Computation.{Computation}
 use Rattle.raw_ast.specs.declared.computation.Computation.TheVariants as K
-use Rattle.raw_ast.specs.declared.computation.Operation.{Operation}
 use Rattle.raw_ast.specs.declared.declarations.Declaration.{Declaration}
 use Rattle.raw_ast.specs.declared.declarations.Definition.{Definition}
 use Rattle.raw_ast.specs.declared.declarations.Members.{Members}
@@ -42,7 +40,7 @@ use Rattle.raw_ast.specs.Code.{RawCode, RawArms}
 use Rattle.raw_ast.specs.Types as t
 use Rattle.raw_ast.specs.Types.{RawType, RawTypes, rawtypes_list}
 use Rattle.raw_meaning.specs.declared.outline.Outline.{Outline}
-use Rattle.raw_meaning.specs.Declared.{place_of, kind_of, outline_of}
+use Rattle.raw_meaning.specs.Outlines.{place_of, kind_of, outline_of}
 use Rattle.raw_meaning.specs.Faults.{texts}
 use Rattle.raw_meaning.specs.Lookups.{type_of, constructor_of, definition_of}
 use Rattle.raw_meaning.specs.Numbers.{numbered, number_of}
@@ -158,7 +156,7 @@ abbrev pub members_trees : Outline → List (List ℕ) → Members → Option (L
 members_trees h ps (M.Variants variants) = each (variant_tree h ps) variants
 members_trees h ps (M.Fields fields) = option_map (λ xs. (codes "mk", xs) ∷ []) (each (field_tree h ps) fields)
 
-abbrev is_structure : Members → Bool
+abbrev pub is_structure : Members → Bool
 is_structure (M.Variants variants) = false
 is_structure (M.Fields fields) = true
 
@@ -169,7 +167,7 @@ declaration_tree h d =
 
 -- ---- definitions
 
-abbrev defined : DefKind → List (List ℕ) → List PTy → PTy → Code → Def
+abbrev pub defined : DefKind → List (List ℕ) → List PTy → PTy → Code → Def
 defined kind ps xs result code = record { kind = kind; type_params = ps; params = xs; result = result; code = code }
 
 abbrev pub parameter_types : Outline → List (List ℕ) → List (Spelling × RawType) → Option (List PTy)

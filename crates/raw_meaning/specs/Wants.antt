@@ -2,8 +2,6 @@
 -- what a production makes wants what its symbols want, by computing.
 use Rattle.std.specs.Prelude.{◌≡◌, ℕ, Bool, true, false, List, [], ◌∷◌, Option, Some, None, codes, pos}
 use Rattle.std.specs.Fmt.{signed_decimal}
-use Rattle.aen_base.specs.declared.int_ty.IntTy.{IntTy}
-use Rattle.pure_ast.specs.declared.comp.Primitive.{Primitive}
 use Rattle.text_meaning.specs.declared.mark.Mark.{Mark}
 use Rattle.text_meaning.specs.declared.mark.Mark.TheVariants.{Open, Close, Unit, OpenBrace, CloseBrace, Colon, Becomes, Comma, Semicolon, Dot, Hash, Bar, Gives, Plus, To, From, Times}
 use Rattle.text_meaning.specs.SpelledNames.{prim_tokens}
@@ -102,9 +100,12 @@ constructor_wants (C.Of ty variant) rest = name ty.text ∷ marks Dot (name vari
 constructor_wants (C.Brk span) rest = says (codes "Exit") (marks Dot (says (codes "brk") rest))
 constructor_wants (C.Ret span) rest = says (codes "Exit") (marks Dot (says (codes "ret") rest))
 
+abbrev pub truth_word : Bool → List ℕ
+truth_word true = codes "true"
+truth_word false = codes "false"
+
 abbrev pub truth_wants : Bool → Wants → Wants
-truth_wants true rest = says (codes "true") rest
-truth_wants false rest = says (codes "false") rest
+truth_wants b rest = says (truth_word b) rest
 
 abbrev mutual
   pub atom_wants : RawAtom → Wants → Wants
@@ -171,9 +172,9 @@ abbrev mutual
 -- ---- declarations
 
 abbrev pub type_parameters_wants : Mark → Mark → List Spelling → Wants → Wants
-type_parameters_wants open close [] rest = rest
-type_parameters_wants open close (s ∷ more) rest =
-    marks open (name s.text ∷ marks Colon (says (codes "Type") (marks close (type_parameters_wants open close more rest))))
+type_parameters_wants left right [] rest = rest
+type_parameters_wants left right (s ∷ more) rest =
+    marks left (name s.text ∷ marks Colon (says (codes "Type") (marks right (type_parameters_wants left right more rest))))
 
 abbrev pub plain_fields_wants : List RawType → Wants → Wants
 plain_fields_wants [] rest = rest

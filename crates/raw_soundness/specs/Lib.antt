@@ -1,0 +1,9 @@
+pub mod BareNames
+pub mod Shapes
+pub mod Symbols
+pub mod Met
+pub mod Readings
+pub mod Shaping
+pub mod Spelling
+pub mod Kept
+pub mod Spelled
