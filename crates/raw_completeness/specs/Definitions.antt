@@ -30,10 +30,10 @@ use Rattle.raw_meaning.specs.Lookups.{same_kind}
 use Rattle.raw_meaning.specs.Outlines.{kind_of}
 use Rattle.raw_meaning.specs.Rules.{unless, once, is_among, name_numbers, last_place}
 use Rattle.raw_meaning.specs.Trees.{type_tree, code_tree, parameter_types, definition_tree, defined, four}
+use Rattle.raw_completeness.specs.Booleans.{false_if}
 use Rattle.raw_completeness.specs.Code.{IsCodeOf, code_read}
 use Rattle.raw_completeness.specs.Finding.{Finds, Places, places, kind_same}
 use Rattle.raw_completeness.specs.Leaves.{Any, zeros, ones}
-use Rattle.raw_completeness.specs.Lists.{false_if}
 use Rattle.raw_completeness.specs.Names.{IsNameOf, kind_found, numbers_keep, name_read}
 use Rattle.raw_completeness.specs.Parameters.{AreNamesOf, implicit_parameters_read, AreApart, parameters_keep, AreParametersOf, parameters_read, parameters_related, values_keep}
 use Rattle.raw_completeness.specs.Relating.{All, all_each, all_length, differ_before, differ_next}

@@ -1,3 +1,4 @@
+pub mod Booleans
 pub mod Classes
 pub mod Rows
 pub mod Lists
@@ -19,3 +20,4 @@ pub mod Declarations
 pub mod Definitions
 pub mod Outlined
 pub mod Texts
+pub mod Complete

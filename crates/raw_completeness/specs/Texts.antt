@@ -25,7 +25,7 @@ use Rattle.raw_completeness.specs.Definitions.{IsDefinitionOf, IsKnown, definiti
 use Rattle.raw_completeness.specs.Finding.{Finds, finds}
 use Rattle.raw_completeness.specs.Outlined.{outline_same}
 use Rattle.raw_completeness.specs.Relating.{All, all_each, all_map}
-use Rattle.raw_completeness.specs.Rows.{Reading, Gives, all_begin, fixed, node, last, produce}
+use Rattle.raw_completeness.specs.Rows.{Reading, fixed, node, last, produce}
 
 -- a text as it is spelled stands for these definitions, and breaks no rule
 abbrev pub IsTextOf : Defs → RawText → Type 0
@@ -59,7 +59,3 @@ text_read d w =
     (node N.Types (flat_map (type_declaration d) d.types) (All (IsDeclarationOf d h) d.types) (last N.Definitions (flat_map (definition d) d.defs) (All (IsDefinitionOf d h) d.defs)))))))
     (IsTextOf d) refl (declarations_read d h f d.types w.types, definitions_read d h f d.defs w.definitions known)
     (λ ls us vs r g. (vs, (r, text_of d vs.1.1.1.1.0 vs.1.1.1.1.1.0 w g.0 g.1)))
-
--- all lexemes that stand for the tokens of well-formed definitions are read as such a text
-pub complete : (d : Defs) (ls : List Spelled) → AllStand ls (tokens_of d) → IsWellFormed d → Gives N.Text (IsTextOf d) ls []
-complete d ls s w = text_read d w ls [] (all_begin (tokens_of d) ls s)
