@@ -1,27 +1,13 @@
 -- Lists whose items differ: a name's place, and what is found by a name.
-use Rattle.std.proofs.Common.{◌≡◌, refl, ap, sym, subst, ◌∙◌, ℕ, zero, suc, ◌+◌, ◌<◌, Bool, true, false, List, [], ◌∷◌, ◌++◌, length, map, Option, Some, None, arith}
-use Rattle.std.specs.Prelude.{◌==◌, ◌&&◌, not, if◌then◌else◌, slice_get, bytes_eq, is_some}
+use Rattle.std.proofs.Common.{◌≡◌, refl, ap, subst, ℕ, zero, suc, ◌<◌, true, false, List, [], ◌∷◌, length, map, Option, Some, None, arith}
+use Rattle.std.specs.Prelude.{◌==◌, slice_get, bytes_eq, is_some}
 use Rattle.std.specs.Option.{option_map}
 use Rattle.std.specs.Cmp.Lexicographic.{bytes_decides}
 use Rattle.std.proofs.lemmas.Bool.Decides.{nat_tests}
 use Rattle.text_meaning.specs.Lists.{Each, Differ}
 use Rattle.raw_meaning.specs.Outlines.{place_of, is_in}
 use Rattle.raw_meaning.specs.Lookups.{find}
-
-pub both_true : (a b : Bool) → a ≡ true → b ≡ true → a && b ≡ true
-both_true a b p q = (λ i. p i && b) ∙ q
-
-pub left_true : (a b : Bool) → a && b ≡ true → a ≡ true
-left_true true b h = refl
-left_true false b h = absurd cc
-
-pub right_true : (a b : Bool) → a && b ≡ true → b ≡ true
-right_true true b h = h
-right_true false b h = absurd cc
-
-pub false_if : (b : Bool) → (b ≡ true → ⊥) → b ≡ false
-false_if true h = absurd (h refl)
-false_if false h = refl
+use Rattle.raw_completeness.specs.Booleans.{false_if}
 
 pub same_number : (c : ℕ) → (c == c) ≡ true
 same_number c = grind (arith, nat_tests)
@@ -46,11 +32,6 @@ each_of_map P f (x ∷ xs) h = (h.0, each_of_map P f xs h.1)
 pub each_so : {A : Type 0} (P Q : A → Type 0) → ((x : A) → P x → Q x) → (xs : List A) → Each P xs → Each Q xs
 each_so P Q f [] h = tt
 each_so P Q f (x ∷ xs) h = (f x h.0, each_so P Q f xs h.1)
-
-pub within : {A : Type 0} (xs : List A) (k : ℕ) (x : A) → slice_get xs k ≡ Some x → k < length xs
-within [] k x h = absurd cc
-within (y ∷ ys) zero x h = omega arith
-within (y ∷ ys) (suc k) x h = let r = within ys k x h in omega arith
 
 pub there : {A : Type 0} (xs : List A) (k : ℕ) → k < length xs → (x : A) × (slice_get xs k ≡ Some x)
 there [] k h = absurd (omega arith)
