@@ -20,14 +20,14 @@ use Rattle.raw_meaning.specs.declared.outline.Outline.{Outline}
 use Rattle.raw_meaning.specs.Faults.{atom_faults, atoms_faults}
 use Rattle.raw_meaning.specs.Lookups.{type_of, constructor_of}
 use Rattle.raw_meaning.specs.Numbers.{numbered, number_of}
+use Rattle.raw_meaning.specs.OptionLemmas.{none_left, none_right, unbroken}
 use Rattle.raw_meaning.specs.Rules as rule
 use Rattle.raw_meaning.specs.Shape.{IsShapedAtom, AreShapedAtoms}
 use Rattle.raw_meaning.specs.Trees.{both, with_parts, variable_number, constructor_id, atom_tree, atom_trees}
 use Rattle.raw_forms.specs.Formed.{IsFormed}
-use Rattle.raw_forms.proofs.Lists.{none_left, none_right}
 use Rattle.raw_forms.proofs.Lookups.{constructor_there}
 use Rattle.raw_forms.proofs.Numbers.{numbered_small, number_in_range}
-use Rattle.raw_forms.proofs.Options.{some_is, kept, kept_if, parts_found}
+use Rattle.raw_forms.proofs.Options.{some_is, kept_if, parts_found}
 
 -- so many terms
 abbrev pub AreTermsWith : ℕ → Defs → Terms → Type 0
@@ -36,14 +36,14 @@ AreTermsWith count d ts = (length (terms_list ts) ≡ count) × AreTerms d ts
 module _ (h : Outline) where
   pub variable_formed : (s : Spelling) → rule.variable s ≡ [] → IsFormed h (λ d k. IsSmall k) (variable_number s)
   variable_formed s e =
-      let v = some_is (variable_number s) (kept (is_some (numbered (codes "v") s.text)) s.span e) in
+      let v = some_is (variable_number s) (unbroken (is_some (numbered (codes "v") s.text)) s.span e) in
       record { tree = v.0; is = v.1; fits = λ d same. numbered_small (codes "v") s.text v.0 v.1 }
 
   -- `Exit.brk` and `Exit.ret` have one part
   exit_formed : (k : CtorId) (count : ℕ) (place : Span) → ((d : Defs) → parts_of d k ≡ Some 1) → rule.unless (count == 1) place ≡ [] →
       IsFormed h (λ d c. parts_of d c ≡ Some count) (with_parts (Some (k, 1)) count)
   exit_formed k count place f e =
-      let one = eqb-true count 1 (kept (count == 1) place e) in
+      let one = eqb-true count 1 (unbroken (count == 1) place e) in
       record { tree = k; is = subst (λ n. with_parts (Some (k, 1)) n ≡ Some k) (sym one) refl; fits = λ d same. f d ∙ ap (λ n. Some n) (sym one) }
 
   pub constructor_formed : (k : Constructor) (count : ℕ) → rule.constructor h k count ≡ [] → IsFormed h (λ d c. parts_of d c ≡ Some count) (constructor_id h k count)
@@ -59,7 +59,7 @@ module _ (h : Outline) where
     atom_formed (a.var s) g e =
         let v = variable_formed s e in record { tree = term.var v.tree; is = ap (option_map (λ k. term.var k)) v.is; fits = λ d same. v.fits d same }
     atom_formed (a.literal s i) g e =
-        let n = some_is (number_of s.text i) (kept (is_some (number_of s.text i)) s.span e) in
+        let n = some_is (number_of s.text i) (unbroken (is_some (number_of s.text i)) s.span e) in
         record { tree = term.literal n.0; is = ap (option_map (λ n. term.literal n)) n.1; fits = λ d same. number_in_range s.text i n.0 n.1 }
     atom_formed (a.truth b) g e = record { tree = term.truth b; is = refl; fits = λ d same. tt }
     atom_formed (a.tuple parts) g e =

@@ -4,3 +4,4 @@ pub mod Numbers
 pub mod Lookups
 pub mod Types
 pub mod Atoms
+pub mod Codes

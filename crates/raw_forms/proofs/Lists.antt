@@ -1,18 +1,11 @@
--- Facts on each item of a list, and lists of which nothing is left.
+-- Facts on each item of a list.
 use Rattle.std.proofs.Common.{◌≡◌, refl, ap, sym, ℕ, zero, suc, ◌<◌, List, [], ◌∷◌, ◌++◌, length, map, Option, Some, arith}
 use Rattle.std.specs.Prelude.{slice_get}
 use Rattle.std.specs.List.{flat_map}
 use Rattle.text_meaning.specs.Lists.{Each, Differ}
+use Rattle.raw_meaning.specs.OptionLemmas.{none_left, none_right}
 
--- nothing in two lists together
-pub none_left : {A : Type 0} (xs ys : List A) → xs ++ ys ≡ [] → xs ≡ []
-none_left [] ys h = refl
-none_left (x ∷ xs) ys h = absurd cc
-
-pub none_right : {A : Type 0} (xs ys : List A) → xs ++ ys ≡ [] → ys ≡ []
-none_right [] ys h = h
-none_right (x ∷ xs) ys h = absurd cc
-
+-- nothing of any item
 pub none_each : {A B : Type 0} (f : A → List B) (xs : List A) → flat_map f xs ≡ [] → Each (λ x. f x ≡ []) xs
 none_each f [] h = tt
 none_each f (x ∷ xs) h = (none_left (f x) (flat_map f xs) h, none_each f xs (none_right (f x) (flat_map f xs) h))

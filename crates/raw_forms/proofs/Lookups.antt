@@ -1,7 +1,6 @@
 -- What names stand for in a text that declares what definitions declare is there in these.
 use Rattle.std.proofs.Common.{◌≡◌, refl, ap, sym, subst, ◌∙◌, ℕ, suc, Bool, true, false, List, [], ◌∷◌, length, map, Option, Some, None}
-use Rattle.std.specs.Prelude.{if◌then◌else◌, slice_get, bytes_eq}
-use Rattle.std.specs.Cmp.Lexicographic.{bytes_decides}
+use Rattle.std.specs.Prelude.{if◌then◌else◌, slice_get}
 use Rattle.std.specs.Option.{option_map, option_and_then}
 use Rattle.pure_ast.specs.declared.ctor.CtorId.{CtorId}
 use Rattle.pure_ast.specs.declared.ctor.CtorId.TheVariants.{Of}
@@ -19,33 +18,9 @@ use Rattle.raw_meaning.specs.declared.outline.TypeHead.{TypeHead}
 use Rattle.raw_meaning.specs.declared.outline.VariantHead.{VariantHead}
 use Rattle.raw_meaning.specs.Heads.{declared_by, head_of_type, head_of_variant, head_of_definition}
 use Rattle.raw_meaning.specs.Lookups.{find, type_of, variant_of, constructor_of, same_kind, head_of_kind, definition_of}
-use Rattle.raw_meaning.specs.Outlines.{place_of, kind_of}
-use Rattle.raw_forms.proofs.Options.{mapped_made, followed_made}
-
-pub same_bytes : (a b : List ℕ) → bytes_eq a b ≡ true → a ≡ b
-same_bytes a b h = (bytes_decides a b).0 h
-
--- an item with this head in this place
-pub record IsThere {A B : Type 0} (head : A → B) (xs : List A) (p : ℕ × B) : Type 0 where
-  pub item : A
-  pub at : slice_get xs p.0 ≡ Some item
-  pub is : head item ≡ p.1
-
-module _ {A B : Type 0} (name : B → List ℕ) (head : A → B) where
-  later : (o : Option (ℕ × B)) (x : A) (xs : List A) (p : ℕ × B) → ((q : ℕ × B) → o ≡ Some q → IsThere head xs q) → option_map (λ (q : ℕ × B). (suc q.0, q.1)) o ≡ Some p → IsThere head (x ∷ xs) p
-  later None x xs p f h = absurd cc
-  later (Some q) x xs p f h =
-      let y : ℕ × B = (suc q.0, q.1) in let e : y ≡ p = cc in
-      let r = f q refl in subst (IsThere head (x ∷ xs)) e (record { item = r.item; at = r.at; is = r.is })
-
-  found_by : (b : Bool) (x : A) (xs : List A) (a : List ℕ) (p : ℕ × B) → ((q : ℕ × B) → find name (map head xs) a ≡ Some q → IsThere head xs q) →
-      (if b then Some (0, head x) else option_map (λ (q : ℕ × B). (suc q.0, q.1)) (find name (map head xs) a)) ≡ Some p → IsThere head (x ∷ xs) p
-  found_by true x xs a p f h = let y : ℕ × B = (0, head x) in let e : y ≡ p = cc in subst (IsThere head (x ∷ xs)) e (record { item = x; at = refl; is = refl })
-  found_by false x xs a p f h = later (find name (map head xs) a) x xs p f h
-
-  pub found : (xs : List A) (a : List ℕ) (p : ℕ × B) → find name (map head xs) a ≡ Some p → IsThere head xs p
-  found [] a p h = absurd cc
-  found (x ∷ xs) a p h = found_by (bytes_eq (name (head x)) a) x xs a p (found xs a) h
+use Rattle.raw_meaning.specs.Outlines.{kind_of}
+use Rattle.raw_meaning.specs.LookupLemmas.{found}
+use Rattle.raw_meaning.specs.OptionLemmas.{mapped_made, followed_made}
 
 -- types
 type_in : (d : Defs) (a : List ℕ) (p : ℕ × ℕ) → type_of (declared_by d) a ≡ Some p → parameters_of d p.0 ≡ Some p.1
@@ -102,14 +77,3 @@ definition_in d n p h =
 
 pub definition_there : (h : Outline) (d : Defs) (n : DefinitionName) (p : ℕ × ℕ) → declared_by d ≡ h → definition_of h n ≡ Some p → parameters_count d p.0 ≡ Some p.1
 definition_there h d n p same e = definition_in d n p (subst (λ h. definition_of h n ≡ Some p) (sym same) e)
-
--- the place of a name
-placed_by : (b : Bool) (o : Option ℕ) (n : List ℕ) (ns : List (List ℕ)) (a : List ℕ) (k : ℕ) → (b ≡ true → n ≡ a) → ((j : ℕ) → o ≡ Some j → slice_get ns j ≡ Some a) →
-    (if b then Some 0 else option_map (λ j. suc j) o) ≡ Some k → slice_get (n ∷ ns) k ≡ Some a
-placed_by true o n ns a k f g h = let e : 0 ≡ k = cc in subst (λ j. slice_get (n ∷ ns) j ≡ Some a) e (ap (λ x. Some x) (f refl))
-placed_by false o n ns a k f g h =
-    let m = mapped_made (λ j. suc j) o k h in subst (λ j. slice_get (n ∷ ns) j ≡ Some a) m.2 (g m.0 m.1)
-
-pub placed : (ns : List (List ℕ)) (a : List ℕ) (k : ℕ) → place_of ns a ≡ Some k → slice_get ns k ≡ Some a
-placed [] a k h = absurd cc
-placed (n ∷ ns) a k h = placed_by (bytes_eq n a) (place_of ns a) n ns a k (same_bytes n a) (placed ns a) h

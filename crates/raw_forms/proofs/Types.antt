@@ -12,15 +12,17 @@ use Rattle.raw_ast.specs.Types as t
 use Rattle.raw_ast.specs.Types.{RawType, RawTypes, rawtypes_list}
 use Rattle.raw_meaning.specs.declared.outline.Outline.{Outline}
 use Rattle.raw_meaning.specs.Faults.{type_faults, types_faults}
+use Rattle.raw_meaning.specs.LookupLemmas.{placed}
 use Rattle.raw_meaning.specs.Lookups.{type_of}
+use Rattle.raw_meaning.specs.OptionLemmas.{none_left, none_right, unbroken}
 use Rattle.raw_meaning.specs.Outlines.{place_of}
 use Rattle.raw_meaning.specs.Rules.{unless, unless_parts, type_name}
 use Rattle.raw_meaning.specs.Shape.{IsShapedType, AreShapedTypes}
 use Rattle.raw_meaning.specs.Trees.{both, named_by, type_tree, type_trees}
 use Rattle.raw_forms.specs.Formed.{IsFormed, IsTypeWith}
-use Rattle.raw_forms.proofs.Lists.{none_left, none_right, within}
-use Rattle.raw_forms.proofs.Lookups.{type_there, placed}
-use Rattle.raw_forms.proofs.Options.{kept, parts_found}
+use Rattle.raw_forms.proofs.Lists.{within}
+use Rattle.raw_forms.proofs.Lookups.{type_there}
+use Rattle.raw_forms.proofs.Options.{parts_found}
 
 -- so many types
 abbrev pub AreTypesWith : List (List ℕ) → ℕ → Defs → PTys → Type 0
@@ -38,7 +40,7 @@ module _ (h : Outline) (ps : List (List ℕ)) where
         fits = λ d same. let f = r.fits d same in (type_there h d s.text (p.item, count) same p.found ∙ ap (λ n. Some n) (sym f.0), f.1);
       }
   named_formed s zero (Some k) args at e r = record { tree = ty.parameter k; is = refl; fits = λ d same. within ps k s.text (placed ps s.text k at) }
-  named_formed s (suc n) (Some k) args at e r = let z = eqb-true (suc n) 0 (kept (suc n == 0) s.span e) in absurd (omega arith)
+  named_formed s (suc n) (Some k) args at e r = let z = eqb-true (suc n) 0 (unbroken (suc n == 0) s.span e) in absurd (omega arith)
 
   mutual
     pub type_formed : (x : RawType) → IsShapedType x → type_faults h ps x ≡ [] → IsFormed h (IsTypeWith ps) (type_tree h ps x)

@@ -1,4 +1,4 @@
-ghost use Rattle.raw_forms.specs.Formed.{AtomsAreFormed, TextsAreFormed, TypesAreFormed};
+ghost use Rattle.raw_forms.specs.Formed.{AtomsAreFormed, CodesAreFormed, TypesAreFormed};
 
 /// A law: a type in which no rule is broken stands for one that is well-formed under any definitions
 /// that declare the same.
@@ -12,7 +12,8 @@ pub fn atoms_are_formed()
     ensures { AtomsAreFormed }
 {}
 
-/// A law: a text in which no rule is broken stands for well-formed definitions.
-pub fn texts_are_formed()
-    ensures { TextsAreFormed }
+/// A law: code in which no rule is broken stands for code that is well-formed under any definitions that
+/// declare the same.
+pub fn codes_are_formed()
+    ensures { CodesAreFormed }
 {}
