@@ -1,5 +1,5 @@
 -- What is told of declarations, definitions and texts is what the definitions give.
-use Rattle.std.proofs.Common.{◌≡◌, ℕ, suc, ◌+◌, List, [], ◌∷◌, ◌++◌, Some, None, true, false, refl, ap, sym, ◌∙◌, subst, append_assoc, append_nil, arith}
+use Rattle.std.proofs.Common.{◌≡◌, ℕ, suc, ◌+◌, List, [], ◌∷◌, ◌++◌, Some, None, true, false, refl, ap, sym, ◌∙◌, subst, append_assoc, append-nil, arith}
 use Rattle.std.specs.Fmt.{decimal}
 use Rattle.std.specs.List.{list_all, flat_map}
 use Rattle.std.specs.Option.{option_map}
@@ -51,7 +51,7 @@ with_known f g v rest (Ok x) o h k =
 
 pub parameters_settle : (types before : List (List ℕ)) (names : List Spelling) →
     Settles (parameters_faults types before names) (Some (before ++ texts names)) (d.parameters_told types before names)
-parameters_settle types before [] = (refl, ap Some (append_nil before))
+parameters_settle types before [] = (refl, ap Some (append-nil before))
 parameters_settle types before (x ∷ rest) =
     let after = before ++ x.text ∷ [] in
     subst (λ (ns : List (List ℕ)). Settles (parameters_faults types before (x ∷ rest)) (Some ns) (d.parameters_told types before (x ∷ rest))) (append_assoc before (x.text ∷ []) (texts rest))
@@ -89,7 +89,10 @@ settles_kept f g o k (Err place) q h e = first_stays f g place h
 settles_kept f g o k (Ok x) (Ok tt) h e = (ap (λ (fs : List Span). fs ++ g) h.0 ∙ e, ap (option_map k) h.1)
 settles_kept f g o k (Ok x) (Err place) h e = ap (λ (fs : List Span). first (fs ++ g)) h.0 ∙ e
 
-numbers_named : (a : List ℕ) (o : Option (List PTy)) → option_map (λ xs. (a, numbered_fields 0 xs)) o ≡ option_map (λ ys. (a, ys)) (option_map (numbered_fields 0) o)
+abbrev named : List ℕ → List (List ℕ × PTy) → NamedFields
+named a ys = (a, ys)
+
+numbers_named : (a : List ℕ) (o : Option (List PTy)) → option_map (λ xs. named a (numbered_fields 0 xs)) o ≡ option_map (named a) (option_map (numbered_fields 0) o)
 numbers_named a None = refl
 numbers_named a (Some xs) = refl
 
@@ -97,7 +100,7 @@ variant_settles : (h : Outline) (ty : List ℕ) (ps : List (List ℕ)) (v : Vari
 variant_settles h ty ps v =
     subst (λ (o : Option NamedFields). Settles (variant_faults h ty ps v) o (d.variant_told h ty ps v)) (sym (numbers_named v.name.text (each (type_tree h ps) v.fields)))
     (settles_kept (flat_map (type_faults h ps) v.fields) (rule.variant_end ty ps v.end v.parameters ++ rule.end_names ps v.parameters)
-    (option_map (numbered_fields 0) (each (type_tree h ps) v.fields)) (λ xs. (v.name.text, xs)) (d.numbered_told h ps 0 v.fields) (nodes.variant_end ty ps v.end v.parameters)
+    (option_map (numbered_fields 0) (each (type_tree h ps) v.fields)) (named v.name.text) (d.numbered_told h ps 0 v.fields) (nodes.variant_end ty ps v.end v.parameters)
     (numbered_settle h ps 0 v.fields) (node.variant_end ty ps v.end v.parameters))
 
 variants_settle : (h : Outline) (ty : List ℕ) (ps before : List (List ℕ)) (vs : List Variant) →
@@ -112,7 +115,10 @@ variants_settle h ty ps before (v ∷ rest) =
     (settles_two f g (λ y ys. y ∷ ys) (variant_tree h ps v) (each (variant_tree h ps) rest) (d.variant_told h ty ps v) (d.variants_told h ty ps after rest)
     (variant_settles h ty ps v) (variants_settle h ty ps after rest))
 
-field_then : (a : List ℕ) (o : Option PTy) (q : Option (List (List ℕ × PTy))) → both (λ y ys. y ∷ ys) (option_map (λ x. (a, x)) o) q ≡ both (λ x ys. (a, x) ∷ ys) o q
+abbrev field : List ℕ → PTy → List ℕ × PTy
+field a x = (a, x)
+
+field_then : (a : List ℕ) (o : Option PTy) (q : Option (List (List ℕ × PTy))) → both (λ y ys. y ∷ ys) (option_map (field a) o) q ≡ both (λ x ys. field a x ∷ ys) o q
 field_then a None q = refl
 field_then a (Some x) None = refl
 field_then a (Some x) (Some ys) = refl
@@ -138,7 +144,7 @@ members_settle h ty ps (M.Fields fields) =
 
 -- ---- declarations
 
-made : Declaration → List (List ℕ) → List NamedFields → PType
+abbrev made : Declaration → List (List ℕ) → List NamedFields → PType
 made x ps vs = record { name = x.name.text; is_struct = d.is_structure x.members; params = ps; variants = vs }
 
 same_structure : (m : Members) → d.is_structure m ≡ is_structure m

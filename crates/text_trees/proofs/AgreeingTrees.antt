@@ -5,9 +5,10 @@ use Rattle.std.specs.Option.{option_map}
 use Rattle.std.proofs.lemmas.Bool.{eqb-true}
 use Rattle.aen_base.specs.declared.span.Span.{Span}
 use Rattle.pure_ast.specs.declared.comp.Comp.TheVariants as comp
+use Rattle.pure_ast.specs.declared.pat.Pat.{Pat}
 use Rattle.pure_ast.specs.declared.pat.Pat.TheVariants as pat
 use Rattle.pure_ast.specs.Code as code
-use Rattle.pure_ast.specs.Code.{arms}
+use Rattle.pure_ast.specs.Code.{Code, Arms, arms}
 use Rattle.pure_ast.specs.Terms as term
 use Rattle.pure_ast.specs.Terms.{terms, terms_list, terms_back}
 use Rattle.pure_ast.specs.Types as ty
@@ -159,6 +160,12 @@ computation_settles h (K.Primitive o xs) =
 
 -- ---- code
 
+arm_settles : (q : Pat) (f g : List Span) (o : Option Code) (p : Option Arms) (r : Result Code Span) (all : Result (List (Pat × Code)) Span) →
+    Settles f o r → Settles g p (on_ok arms all) → Settles (f ++ g) (both (λ y r. code.more_arms q y r) o p) (on_ok arms (and_then r (λ y. on_ok (λ r. (q, y) ∷ r) all)))
+arm_settles q f g o p r all h k =
+    re_form (f ++ g) (both (λ y r. code.more_arms q y r) o p) arms r (λ y r. (q, y) ∷ r) all
+    (settles_both f g (λ y r. code.more_arms q y r) o p r arms all (λ y r. arms ((q, y) ∷ r)) h k (λ y r. refl))
+
 mutual
   pub code_settles : (h : Outline) (x : RawCode) → Settles (code_faults h x) (code_tree h x) (code_told h x)
   code_settles h (c.bind v x rest) =
@@ -181,10 +188,8 @@ mutual
   arms_settle h (c.more_rawarms p x rest) =
       let f = code_faults h x in
       let g = arms_faults h rest in
-      let told = λ q. and_then (code_told h x) (λ y. on_ok (λ r. (q, y) ∷ r) (arms_told h rest)) in
-      let inner = λ q. re_form (f ++ g) (both (λ y r. code.more_arms q y r) (code_tree h x) (arm_trees h rest)) arms (code_told h x) (λ y r. (q, y) ∷ r) (arms_told h rest)
-        (settles_both f g (λ y r. code.more_arms q y r) (code_tree h x) (arm_trees h rest) (code_told h x) arms (arms_told h rest) (λ y r. arms ((q, y) ∷ r))
-        (code_settles h x) (arms_settle h rest) (λ y r. refl)) in
+      let told : Pat → Result (List (Pat × Code)) Span = λ q. and_then (code_told h x) (λ y. on_ok (λ r. (q, y) ∷ r) (arms_told h rest)) in
       subst (λ z. Settles (pattern_faults h p ++ (f ++ g)) (three (λ q y r. code.more_arms q y r) (pattern_tree h p) (code_tree h x) (arm_trees h rest)) z) (sym (on_then arms (pattern_told h p) told))
       (settles_then (pattern_faults h p) (f ++ g) (pattern_tree h p) (λ o. three (λ q y r. code.more_arms q y r) o (code_tree h x) (arm_trees h rest)) (pattern_told h p) (λ q. on_ok arms (told q))
-      (pattern_settles h p) inner)
+      (pattern_settles h p)
+      (λ q. arm_settles q f g (code_tree h x) (arm_trees h rest) (code_told h x) (arms_told h rest) (code_settles h x) (arms_settle h rest)))
