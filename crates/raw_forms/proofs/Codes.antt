@@ -1,10 +1,9 @@
 -- Patterns, computations and code in which no rule is broken are well-formed.
-use Rattle.std.proofs.Common.{◌≡◌, refl, ap, sym, subst, ◌∙◌, ℕ, ◌≤◌, Bool, true, false, List, [], ◌∷◌, ◌++◌, length, Option, Some, None, eqb-true}
+use Rattle.std.proofs.Common.{◌≡◌, refl, ap, sym, subst, ◌∙◌, ℕ, ◌≤◌, List, [], ◌∷◌, ◌++◌, length, Option, Some, None, eqb-true}
 use Rattle.std.specs.Prelude.{◌==◌, if◌then◌else◌}
 use Rattle.std.specs.Option.{option_map}
 use Rattle.aen_base.specs.declared.span.Span.{Span}
 use Rattle.pure_ast.specs.declared.comp.Comp.TheVariants as comp
-use Rattle.pure_ast.specs.declared.comp.Primitive.{Primitive}
 use Rattle.pure_ast.specs.declared.def.Defs.{Defs}
 use Rattle.pure_ast.specs.declared.pat.Pat.TheVariants as pat
 use Rattle.pure_ast.specs.Code as code
