@@ -33,10 +33,10 @@ use Rattle.raw_meaning.specs.Rules as rule
 use Rattle.raw_meaning.specs.Shape.{AreShapedAtoms, IsShapedPattern, IsShapedComputation, IsShapedCode, AreShapedArms}
 use Rattle.raw_meaning.specs.Trees.{both, three, with_parts, variable_number, variable_numbers, pattern_tree, atoms_listed, computation_tree, code_tree, arm_trees}
 use Rattle.raw_forms.specs.Formed.{IsFormed}
-use Rattle.raw_forms.proofs.Atoms.{variable_formed, constructor_formed, atom_formed, atoms_formed}
-use Rattle.raw_forms.proofs.Lists.{none_each, each_so}
-use Rattle.raw_forms.proofs.Lookups.{definition_there}
-use Rattle.raw_forms.proofs.Options.{kept_if, parts_found, each_formed}
+use Rattle.raw_forms.specs.Atoms.{variable_formed, constructor_formed, atom_formed, atoms_formed}
+use Rattle.raw_forms.specs.Lists.{none_each, each_so}
+use Rattle.raw_forms.specs.Lookups.{definition_there}
+use Rattle.raw_forms.specs.Options.{kept_if, parts_found, each_formed}
 
 -- so many variables, and so many terms
 abbrev pub AreVariablesWith : ℕ → Defs → List ℕ → Type 0

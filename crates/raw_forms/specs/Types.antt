@@ -19,9 +19,9 @@ use Rattle.raw_meaning.specs.Rules.{unless, unless_parts, type_name}
 use Rattle.raw_meaning.specs.Shape.{IsShapedType, AreShapedTypes}
 use Rattle.raw_meaning.specs.Trees.{both, named_by, type_tree, type_trees}
 use Rattle.raw_forms.specs.Formed.{IsFormed, IsTypeWith}
-use Rattle.raw_forms.proofs.Lists.{within}
-use Rattle.raw_forms.proofs.Lookups.{type_there}
-use Rattle.raw_forms.proofs.Options.{parts_found}
+use Rattle.raw_forms.specs.Lists.{within}
+use Rattle.raw_forms.specs.Lookups.{type_there}
+use Rattle.raw_forms.specs.Options.{parts_found}
 
 -- so many types
 abbrev pub AreTypesWith : List (List ℕ) → ℕ → Defs → PTys → Type 0
