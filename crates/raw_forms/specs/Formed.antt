@@ -1,7 +1,6 @@
 -- What breaks no rule stands for something well-formed (TEXT.md, "Faults", "Well-formed definitions").
 use Rattle.std.specs.Prelude.{◌≡◌, ℕ, List, [], length, Option, Some}
 use Rattle.pure_ast.specs.declared.def.Defs.{Defs}
-use Rattle.pure_ast.specs.Terms.{Term}
 use Rattle.pure_ast.specs.Types.{PTy}
 use Rattle.text_meaning.specs.WellFormed.{IsWellFormed}
 use Rattle.text_meaning.specs.WellFormedCode.{IsCode}

@@ -1,5 +1,5 @@
 -- Types in which no rule is broken are well-formed.
-use Rattle.raw_forms.proofs.Types.{type_formed}
+use Rattle.raw_forms.specs.Types.{type_formed}
 use Rattle.raw_forms.proofs.laws.types_are_formed.Goals as goal
 
 pub returns : goal.returns

@@ -1,10 +1,9 @@
 -- Patterns, computations and code in which no rule is broken are well-formed.
-use Rattle.std.proofs.Common.{◌≡◌, refl, ap, sym, subst, ◌∙◌, ℕ, ◌≤◌, Bool, true, false, List, [], ◌∷◌, ◌++◌, length, Option, Some, None, eqb-true}
+use Rattle.std.proofs.Common.{◌≡◌, refl, ap, sym, subst, ◌∙◌, ℕ, ◌≤◌, List, [], ◌∷◌, ◌++◌, length, Option, Some, None, eqb-true}
 use Rattle.std.specs.Prelude.{◌==◌, if◌then◌else◌}
 use Rattle.std.specs.Option.{option_map}
 use Rattle.aen_base.specs.declared.span.Span.{Span}
 use Rattle.pure_ast.specs.declared.comp.Comp.TheVariants as comp
-use Rattle.pure_ast.specs.declared.comp.Primitive.{Primitive}
 use Rattle.pure_ast.specs.declared.def.Defs.{Defs}
 use Rattle.pure_ast.specs.declared.pat.Pat.TheVariants as pat
 use Rattle.pure_ast.specs.Code as code
@@ -34,10 +33,10 @@ use Rattle.raw_meaning.specs.Rules as rule
 use Rattle.raw_meaning.specs.Shape.{AreShapedAtoms, IsShapedPattern, IsShapedComputation, IsShapedCode, AreShapedArms}
 use Rattle.raw_meaning.specs.Trees.{both, three, with_parts, variable_number, variable_numbers, pattern_tree, atoms_listed, computation_tree, code_tree, arm_trees}
 use Rattle.raw_forms.specs.Formed.{IsFormed}
-use Rattle.raw_forms.proofs.Atoms.{variable_formed, constructor_formed, atom_formed, atoms_formed}
-use Rattle.raw_forms.proofs.Lists.{none_each, each_so}
-use Rattle.raw_forms.proofs.Lookups.{definition_there}
-use Rattle.raw_forms.proofs.Options.{kept_if, parts_found, each_formed}
+use Rattle.raw_forms.specs.Atoms.{variable_formed, constructor_formed, atom_formed, atoms_formed}
+use Rattle.raw_forms.specs.Lists.{none_each, each_so}
+use Rattle.raw_forms.specs.Lookups.{definition_there}
+use Rattle.raw_forms.specs.Options.{kept_if, parts_found, each_formed}
 
 -- so many variables, and so many terms
 abbrev pub AreVariablesWith : ℕ → Defs → List ℕ → Type 0

@@ -1,5 +1,5 @@
 -- Numbers as they are spelled are small, or in the range of their type.
-use Rattle.std.proofs.Common.{◌≡◌, refl, ap, sym, subst, ℕ, ◌^◌, ◌<◌, Bool, true, false, List, [], ◌∷◌, Option, Some, None}
+use Rattle.std.proofs.Common.{◌≡◌, refl, subst, ℕ, ◌^◌, Bool, true, false, List, [], ◌∷◌, Option, Some, None}
 use Rattle.std.specs.Prelude.{◌==◌, ◌&&◌, nat_lt, if◌then◌else◌, bytes_eq}
 use Rattle.std.specs.Fmt.{decimal, signed_decimal}
 use Rattle.std.specs.Str.Parse.{digits_value}
@@ -8,7 +8,7 @@ use Rattle.aen_base.specs.declared.int_ty.IntTy.{IntTy}
 use Rattle.aen_base.specs.Numbers.{Number, in_range, signed}
 use Rattle.text_meaning.specs.Names.{are_digits}
 use Rattle.text_meaning.specs.Ranges.{IsSmall, IsInRange}
-use Rattle.raw_meaning.specs.Numbers.{checked_number, small_number, numbered, magnitude, has_minus, number_of}
+use Rattle.raw_meaning.specs.Numbers.{checked_number, numbered, magnitude, has_minus, number_of}
 
 by_test : {A : Type 0} {G : Type 0} (b : Bool) (x z : A) → (if b then Some x else None) ≡ Some z → (b ≡ true → x ≡ z → G) → G
 by_test true x z h f = let e : x ≡ z = cc in f refl e

@@ -1,6 +1,6 @@
 -- Atoms in which no rule is broken are well-formed.
-use Rattle.std.proofs.Common.{◌≡◌, refl, ap, sym, subst, ◌∙◌, ℕ, zero, suc, ◌≤◌, Bool, true, false, List, [], ◌∷◌, ◌++◌, length, Option, Some, None, eqb-true}
-use Rattle.std.specs.Prelude.{◌==◌, if◌then◌else◌, is_some, codes}
+use Rattle.std.proofs.Common.{◌≡◌, refl, ap, sym, subst, ◌∙◌, ℕ, suc, [], length, Some, eqb-true}
+use Rattle.std.specs.Prelude.{◌==◌, is_some, codes}
 use Rattle.std.specs.Option.{option_map}
 use Rattle.aen_base.specs.declared.span.Span.{Span}
 use Rattle.pure_ast.specs.declared.ctor.CtorId.{CtorId}
@@ -25,9 +25,9 @@ use Rattle.raw_meaning.specs.Rules as rule
 use Rattle.raw_meaning.specs.Shape.{IsShapedAtom, AreShapedAtoms}
 use Rattle.raw_meaning.specs.Trees.{both, with_parts, variable_number, constructor_id, atom_tree, atom_trees}
 use Rattle.raw_forms.specs.Formed.{IsFormed}
-use Rattle.raw_forms.proofs.Lookups.{constructor_there}
-use Rattle.raw_forms.proofs.Numbers.{numbered_small, number_in_range}
-use Rattle.raw_forms.proofs.Options.{some_is, kept_if, parts_found}
+use Rattle.raw_forms.specs.Lookups.{constructor_there}
+use Rattle.raw_forms.specs.Numbers.{numbered_small, number_in_range}
+use Rattle.raw_forms.specs.Options.{some_is, kept_if, parts_found}
 
 -- so many terms
 abbrev pub AreTermsWith : ℕ → Defs → Terms → Type 0

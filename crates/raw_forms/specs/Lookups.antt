@@ -12,7 +12,6 @@ use Rattle.text_meaning.specs.Lookups.{Variant, variant, parts_of}
 use Rattle.text_meaning.specs.WellFormedTerms.{parameters_count}
 use Rattle.text_meaning.specs.WellFormedTypes.{parameters_of}
 use Rattle.raw_ast.specs.declared.names.DefinitionName.{DefinitionName}
-use Rattle.raw_meaning.specs.declared.outline.DefinitionHead.{DefinitionHead}
 use Rattle.raw_meaning.specs.declared.outline.Outline.{Outline}
 use Rattle.raw_meaning.specs.declared.outline.TypeHead.{TypeHead}
 use Rattle.raw_meaning.specs.declared.outline.VariantHead.{VariantHead}

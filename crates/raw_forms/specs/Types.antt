@@ -1,8 +1,7 @@
 -- Types in which no rule is broken are well-formed.
-use Rattle.std.proofs.Common.{◌≡◌, refl, ap, sym, subst, ◌∙◌, ℕ, zero, suc, ◌≤◌, Bool, true, false, List, [], ◌∷◌, ◌++◌, length, Option, Some, None, eqb-true, arith}
+use Rattle.std.proofs.Common.{◌≡◌, refl, ap, sym, subst, ◌∙◌, ℕ, zero, suc, ◌≤◌, List, [], length, Option, Some, None, eqb-true, arith}
 use Rattle.std.specs.Prelude.{◌==◌, if◌then◌else◌, is_some}
 use Rattle.std.specs.Option.{option_map}
-use Rattle.aen_base.specs.declared.span.Span.{Span}
 use Rattle.pure_ast.specs.declared.def.Defs.{Defs}
 use Rattle.pure_ast.specs.Types as ty
 use Rattle.pure_ast.specs.Types.{PTy, PTys, ptys_list}
@@ -20,9 +19,9 @@ use Rattle.raw_meaning.specs.Rules.{unless, unless_parts, type_name}
 use Rattle.raw_meaning.specs.Shape.{IsShapedType, AreShapedTypes}
 use Rattle.raw_meaning.specs.Trees.{both, named_by, type_tree, type_trees}
 use Rattle.raw_forms.specs.Formed.{IsFormed, IsTypeWith}
-use Rattle.raw_forms.proofs.Lists.{within}
-use Rattle.raw_forms.proofs.Lookups.{type_there}
-use Rattle.raw_forms.proofs.Options.{parts_found}
+use Rattle.raw_forms.specs.Lists.{within}
+use Rattle.raw_forms.specs.Lookups.{type_there}
+use Rattle.raw_forms.specs.Options.{parts_found}
 
 -- so many types
 abbrev pub AreTypesWith : List (List ℕ) → ℕ → Defs → PTys → Type 0
