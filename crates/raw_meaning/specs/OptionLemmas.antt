@@ -55,7 +55,7 @@ four_made f None q r s z h = absurd cc
 four_made f (Some x) q r s z h = record { first = x; rest = three_made (f x) q r s z h; is_first = refl }
 
 -- what has so many parts is there
-parts_by : {A : Type 0} (b : Bool) (x z : A) → (if b then Some x else None) ≡ Some z → x ≡ z
+pub parts_by : {A : Type 0} (b : Bool) (x z : A) → (if b then Some x else None) ≡ Some z → x ≡ z
 parts_by true x z h = cc
 parts_by false x z h = absurd cc
 

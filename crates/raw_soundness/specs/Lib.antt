@@ -7,3 +7,12 @@ pub mod Shaping
 pub mod Spelling
 pub mod Kept
 pub mod Spelled
+pub mod Spells
+pub mod NumbersSpelled
+pub mod NamesSpelled
+pub mod TypesSpelled
+pub mod AtomsSpelled
+pub mod CodeSpelled
+pub mod DeclarationsSpelled
+pub mod DefinitionsSpelled
+pub mod Sound
