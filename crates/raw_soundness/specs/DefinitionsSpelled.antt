@@ -97,8 +97,8 @@ module _ (h : Outline) (d : Defs) (same : declared_by d ≡ h) where
   definitions_spelled types kinds (x ∷ xs) ts rest g e =
       let m = both_made (λ y ys. y ∷ ys) (definition_tree h x) (each (definition_tree h) xs) ts e in
       let first = definition_faults h types kinds x in
-      let kinds2 = and_kind kinds (kind_of h.functions x.name) in
-      let later = definitions_faults h types kinds2 xs in
+      let more_kinds = and_kind kinds (kind_of h.functions x.name) in
+      let later = definitions_faults h types more_kinds xs in
       subst (λ ts. Spells (definitions_wants (x ∷ xs) rest) rest (flat_map (definition d) ts)) m.is
       (seq (definition_spelled types kinds x m.first (definitions_wants xs rest) (none_left first later g) m.is_first)
-      (definitions_spelled types kinds2 xs m.second rest (none_right first later g) m.is_second))
+      (definitions_spelled types more_kinds xs m.second rest (none_right first later g) m.is_second))
