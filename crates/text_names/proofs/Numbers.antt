@@ -1,13 +1,13 @@
 -- What words with a number and digits stand for.
-use Rattle.std.proofs.Common.{◌≡◌, refl, ap, sym, subst, ◌∙◌, ℕ, suc, ◌+◌, ◌<◌, ◌≤◌, ◌^◌, Bool, true, false, List, [], ◌∷◌, ◌++◌, Some, None, arith, ℤ, pos, negsuc}
-use Rattle.std.specs.Prelude.{◌==◌, ◌&&◌, nat_lt, if◌then◌else◌, bytes_eq}
+use Rattle.std.proofs.Common.{◌≡◌, refl, ap, sym, subst, ◌∙◌, ℕ, ◌<◌, ◌≤◌, ◌^◌, Bool, true, false, List, [], ◌∷◌, Some, None, arith}
+use Rattle.std.specs.Prelude.{◌&&◌, nat_lt, if◌then◌else◌, bytes_eq}
 use Rattle.std.specs.List.{list_all}
 use Rattle.std.specs.Char.{is_ascii_digit, digit_value}
 use Rattle.std.specs.Fmt.{decimal, signed_decimal}
 use Rattle.std.specs.Str.Parse.{IsNumeral, AllDigits, digits_value}
 use Rattle.std.specs.Cmp.Lexicographic.{bytes_decides}
 use Rattle.std.proofs.Math.Dec.{lit≤}
-use Rattle.std.proofs.lemmas.Bool.{ltb-true, eqb-true}
+use Rattle.std.proofs.lemmas.Bool.{ltb-true}
 use Rattle.std.proofs.lemmas.Bool.Decides.{nat_tests}
 use Rattle.std.proofs.lemmas.Fmt.{decimal_is_IsNumeral_wide}
 use Rattle.aen_base.specs.declared.int_ty.IntTy.{IntTy}
@@ -18,7 +18,7 @@ use Rattle.text_meaning.specs.Names.{are_digits}
 use Rattle.text_meaning.specs.Ranges.{IsSmall, IsInRange}
 use Rattle.raw_meaning.specs.Numbers as s
 
-by_test : {A : Type 0} {G : Type 0} (b : Bool) (x y z : A) → (if b then x else y) ≡ z → (b ≡ true → x ≡ z → G) → (b ≡ false → y ≡ z → G) → G
+pub by_test : {A : Type 0} {G : Type 0} (b : Bool) (x y z : A) → (if b then x else y) ≡ z → (b ≡ true → x ≡ z → G) → (b ≡ false → y ≡ z → G) → G
 by_test true x y z h f g = f refl h
 by_test false x y z h f g = g refl h
 
@@ -39,7 +39,7 @@ same_bytes a b h = (bytes_decides a b).0 h
 pub bytes_same : (a : List ℕ) → bytes_eq a a ≡ true
 bytes_same a = (bytes_decides a a).1 refl
 
-lt_true : (a b : ℕ) → a < b → nat_lt a b ≡ true
+pub lt_true : (a b : ℕ) → a < b → nat_lt a b ≡ true
 lt_true a b h = grind (arith, nat_tests)
 
 -- numbers below 2^32
@@ -76,21 +76,6 @@ small_complete n h =
     let v = (decimal_is_IsNumeral_wide n (wide n h)).1 in
     rw d (rw v (rw (and_true _ _ (lt_true n (2 ^ 32) h) (bytes_same (decimal n))) refl))
 
-pub prefix_sound : (p w : List ℕ) (n : ℕ) → s.numbered p w ≡ Some n → (w ≡ p ++ decimal n) × IsSmall n
-prefix_sound [] w n h = small_sound w n h
-prefix_sound (c ∷ cs) [] n h = absurd cc
-prefix_sound (c ∷ cs) (d ∷ w) n h =
-    by_test (d == c) (s.numbered cs w) None (Some n) h
-    (λ t e. let r = prefix_sound cs w n e in ((λ i. eqb-true d c t i ∷ r.0 i), r.1))
-    (λ t e. absurd cc)
-
-pub same_number : (c : ℕ) → (c == c) ≡ true
-same_number c = grind (arith, nat_tests)
-
-pub prefix_complete : (p : List ℕ) (n : ℕ) → IsSmall n → s.numbered p (p ++ decimal n) ≡ Some n
-prefix_complete [] n h = small_complete n h
-prefix_complete (c ∷ cs) n h = rw (same_number c) (prefix_complete cs n h)
-
 -- numbers of a type
 pub number_sound : (ds : List ℕ) (t : IntTy) (n : Number) → s.number_of ds t ≡ Some n → (ds ≡ signed_decimal n.value) × (n.ty ≡ t) × IsInRange n
 number_sound ds t n h =
@@ -116,47 +101,6 @@ large_limit I64 = lit≤ tt
 large_limit I128 = lit≤ tt
 large_limit Isize = lit≤ tt
 
-pub large_depth : (t : IntTy) → depth t ≤ 2 ^ 128
-unfolding numbers.depth
-large_depth U8 = lit≤ tt
-large_depth U16 = lit≤ tt
-large_depth U32 = lit≤ tt
-large_depth U64 = lit≤ tt
-large_depth U128 = lit≤ tt
-large_depth Usize = lit≤ tt
-large_depth I8 = lit≤ tt
-large_depth I16 = lit≤ tt
-large_depth I32 = lit≤ tt
-large_depth I64 = lit≤ tt
-large_depth I128 = lit≤ tt
-large_depth Isize = lit≤ tt
-
 pub digits_not_minus : (ds : List ℕ) → are_digits ds ≡ true → s.has_minus ds ≡ false
 digits_not_minus [] h = refl
 digits_not_minus (c ∷ cs) h = let k = and_left (is_ascii_digit c) (list_all is_ascii_digit cs) h in grind (arith, nat_tests)
-
-plain_magnitude : (ds : List ℕ) → s.has_minus ds ≡ false → s.magnitude ds ≡ digits_value 10 ds
-plain_magnitude [] h = refl
-plain_magnitude (c ∷ cs) h = rw h refl
-
-pub value_of : (z : ℤ) (t : IntTy) → in_range t z ≡ true → signed (s.has_minus (signed_decimal z)) (s.magnitude (signed_decimal z)) ≡ z
-value_of (pos n) t h =
-    let a = ltb-true n (limit t) h in
-    let b = large_limit t in
-    let large : 2 ^ 128 ≤ 10 ^ 64 = lit≤ tt in
-    let w : n < 10 ^ 64 = omega arith in
-    let m = digits_not_minus (decimal n) (decimal_digits n w) in
-    let v = plain_magnitude (decimal n) m ∙ (decimal_is_IsNumeral_wide n w).1 in
-    rw (m, v) refl
-value_of (negsuc n) t h =
-    let a = ltb-true n (depth t) h in
-    let b = large_depth t in
-    let large : 2 ^ 128 + 1 ≤ 10 ^ 64 = lit≤ tt in
-    let w : suc n < 10 ^ 64 = omega arith in
-    let v = (decimal_is_IsNumeral_wide (suc n) w).1 in
-    rw v refl
-
-pub number_complete : (n : Number) → IsInRange n → s.number_of (signed_decimal n.value) n.ty ≡ Some n
-number_complete n h =
-    let v = value_of n.value n.ty h in
-    rw v (rw (and_true _ _ (bytes_same (signed_decimal n.value)) h) refl)

@@ -21,14 +21,7 @@ use Rattle.aen_base.specs.Numbers as numbers
 use Rattle.aen_base.specs.Numbers.{Number, in_range, signed, limit, depth}
 use Rattle.text_names.specs.Digits as d
 use Rattle.raw_meaning.specs.Numbers as s
-use Rattle.text_names.proofs.Numbers.{and_left, and_right, and_true, bytes_same, small_sound, small_complete, number_sound, large_limit, digits_not_minus, decimal_digits}
-
-by_test : {A : Type 0} {G : Type 0} (b : Bool) (x y z : A) → (if b then x else y) ≡ z → (b ≡ true → x ≡ z → G) → (b ≡ false → y ≡ z → G) → G
-by_test true x y z h f g = f refl h
-by_test false x y z h f g = g refl h
-
-lt_true : (a b : ℕ) → a < b → nat_lt a b ≡ true
-lt_true a b h = grind (arith, nat_tests)
+use Rattle.text_names.proofs.Numbers.{by_test, lt_true, and_left, and_right, and_true, bytes_same, small_sound, small_complete, number_sound, large_limit, digits_not_minus, decimal_digits}
 
 -- digits, as std has them
 own : IsNumeralModel (λ ds. list_all is_digit ds ≡ true) (number_digits 0)
