@@ -4,4 +4,4 @@
 
 mod laws;
 
-pub use laws::{atoms_are_formed, codes_are_formed, types_are_formed};
+pub use laws::{atoms_are_formed, codes_are_formed, texts_are_formed, types_are_formed};
