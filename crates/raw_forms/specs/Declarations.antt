@@ -1,5 +1,5 @@
 -- Declarations of types in which no rule is broken are well-formed.
-use Rattle.std.proofs.Common.{◌≡◌, refl, ap, sym, subst, ◌∙◌, ℕ, List, [], ◌∷◌, ◌++◌, length, map, append_assoc, append-nil}
+use Rattle.std.proofs.Common.{◌≡◌, refl, ap, sym, subst, ◌∙◌, ℕ, List, [], ◌∷◌, ◌++◌, append_assoc, append-nil}
 use Rattle.std.specs.Option.{option_map}
 use Rattle.pure_ast.specs.declared.def.Defs.{Defs}
 use Rattle.pure_ast.specs.declared.def.PType.{PType}
@@ -16,7 +16,7 @@ use Rattle.raw_meaning.specs.Named.{IsNamed, IsNamedDeclaration}
 use Rattle.raw_meaning.specs.OptionLemmas.{none_left, none_right}
 use Rattle.raw_meaning.specs.Rules as rule
 use Rattle.raw_meaning.specs.Shape.{IsShapedDeclaration}
-use Rattle.raw_meaning.specs.Trees.{both, each, is_structure, declaration_tree, members_trees}
+use Rattle.raw_meaning.specs.Trees.{both, each, is_structure, declaration_tree}
 use Rattle.raw_forms.specs.Formed.{IsFormed, TypesAreFormed}
 use Rattle.raw_forms.specs.Differences.{IsNew, differ_next, new_name}
 use Rattle.raw_forms.specs.Lists.{each_join, each_front, each_back, each_so, each_with, each_swap, each_mapped}

@@ -1,6 +1,6 @@
 -- Definitions in which no rule is broken are well-formed.
-use Rattle.std.proofs.Common.{◌≡◌, refl, ap, sym, subst, ◌∙◌, ℕ, suc, ◌+◌, ◌^◌, ◌<◌, ◌≤◌, Bool, true, false, List, [], ◌∷◌, ◌++◌, length, Option, Some, None, eqb-true, arith}
-use Rattle.std.specs.Prelude.{◌==◌, codes, is_some}
+use Rattle.std.proofs.Common.{◌≡◌, refl, ap, sym, subst, ◌∙◌, ℕ, suc, ◌+◌, ◌^◌, ◌<◌, ◌≤◌, true, List, [], ◌∷◌, ◌++◌, length, Option, Some, None, eqb-true, arith}
+use Rattle.std.specs.Prelude.{codes, is_some}
 use Rattle.std.specs.Option.{option_map}
 use Rattle.pure_ast.specs.declared.def.DefKind.{DefKind}
 use Rattle.pure_ast.specs.declared.def.DefKind.TheVariants as K
@@ -23,7 +23,7 @@ use Rattle.raw_meaning.specs.OptionLemmas.{none_left, none_right, unbroken}
 use Rattle.raw_meaning.specs.Outlines.{place_of, is_in, part_number, kind_by, kind_of}
 use Rattle.raw_meaning.specs.Rules as rule
 use Rattle.raw_meaning.specs.Shape.{AreShapedFields, IsShapedDefinition}
-use Rattle.raw_meaning.specs.Trees.{both, four, each, type_tree, code_tree, defined, parameter_types, definition_tree}
+use Rattle.raw_meaning.specs.Trees.{both, four, each, defined, parameter_types, definition_tree}
 use Rattle.raw_forms.specs.Formed.{IsFormed, IsTypeWith, TypesAreFormed, CodesAreFormed}
 use Rattle.raw_forms.specs.Declarations.{parameters_fit, parameters_named, parameters_apart}
 use Rattle.raw_forms.specs.Numbers.{numbered_small}

@@ -11,13 +11,12 @@ use Rattle.text_meaning.specs.Names.{IsName}
 use Rattle.text_meaning.specs.WellFormed.{function_of, AreInOrder}
 use Rattle.text_meaning.specs.WellFormedTypes.{AreNames}
 use Rattle.raw_ast.specs.declared.declarations.Definition.{Definition}
-use Rattle.raw_ast.specs.declared.names.DefinitionName.{DefinitionName}
 use Rattle.raw_meaning.specs.declared.outline.DefinitionHead.{DefinitionHead}
 use Rattle.raw_meaning.specs.Heads.{head_of_definition}
 use Rattle.raw_meaning.specs.LookupLemmas.{placed}
 use Rattle.raw_meaning.specs.Named.{IsNamedDefinition}
 use Rattle.raw_meaning.specs.OptionLemmas.{some_so}
-use Rattle.raw_meaning.specs.Outlines.{place_of, is_in, with_function, functions_after, part_number, kind_by, kind_of, with_head, definition_heads}
+use Rattle.raw_meaning.specs.Outlines.{place_of, is_in, with_function, functions_after, part_number, kind_by, with_head, definition_heads}
 use Rattle.raw_forms.specs.Definitions.{HasKind}
 use Rattle.raw_forms.specs.Differences.{not_in}
 use Rattle.raw_forms.specs.Lists.{each_join, differ_last, within}

@@ -1,10 +1,10 @@
 -- The kinds of definitions that are each defined once differ.
-use Rattle.std.proofs.Common.{◌≡◌, refl, ap, sym, subst, ◌∙◌, ℕ, Bool, true, false, List, [], ◌∷◌, ◌++◌, length, map, append-nil, Option, Some, None, eq-eqb}
+use Rattle.std.proofs.Common.{◌≡◌, refl, sym, subst, ◌∙◌, ℕ, Bool, true, false, List, [], ◌∷◌, ◌++◌, length, map, append-nil, Option, Some, None, eq-eqb}
 use Rattle.std.specs.Prelude.{◌==◌, ◌&&◌, ◌||◌, not}
 use Rattle.aen_base.specs.declared.span.Span.{Span}
 use Rattle.pure_ast.specs.declared.def.DefKind.{DefKind}
 use Rattle.pure_ast.specs.declared.def.DefKind.TheVariants as K
-use Rattle.text_meaning.specs.Lists.{Each, Differ}
+use Rattle.text_meaning.specs.Lists.{Differ}
 use Rattle.raw_ast.specs.declared.declarations.Definition.{Definition}
 use Rattle.raw_meaning.specs.declared.outline.DefinitionHead.{DefinitionHead}
 use Rattle.raw_meaning.specs.declared.outline.Outline.{Outline}

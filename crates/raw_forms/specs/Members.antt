@@ -1,5 +1,5 @@
 -- Variants and fields in which no rule is broken are well-formed.
-use Rattle.std.proofs.Common.{◌≡◌, refl, ap, sym, subst, ℕ, suc, Bool, true, false, List, [], ◌∷◌, ◌++◌, length, map, append-nil}
+use Rattle.std.proofs.Common.{◌≡◌, refl, ap, sym, subst, ℕ, suc, Bool, List, [], ◌∷◌, ◌++◌, map, append-nil}
 use Rattle.std.specs.Prelude.{codes}
 use Rattle.std.specs.List.{flat_map}
 use Rattle.std.specs.Option.{option_map}
@@ -8,7 +8,7 @@ use Rattle.pure_ast.specs.Types.{PTy}
 use Rattle.text_meaning.specs.Lists.{Each, Differ}
 use Rattle.text_meaning.specs.Lookups.{Variant as NamedFields}
 use Rattle.text_meaning.specs.Names.{IsName}
-use Rattle.text_meaning.specs.WellFormedTypes.{IsType, names_of, AreNumbered, AreNames, AreVariants}
+use Rattle.text_meaning.specs.WellFormedTypes.{names_of, AreNumbered, AreNames, AreVariants}
 use Rattle.raw_ast.specs.declared.declarations.Members.{Members}
 use Rattle.raw_ast.specs.declared.declarations.Members.TheVariants as M
 use Rattle.raw_ast.specs.declared.declarations.Variant.{Variant}

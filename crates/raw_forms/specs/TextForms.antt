@@ -1,5 +1,5 @@
 -- Texts in which no rule is broken stand for well-formed definitions.
-use Rattle.std.proofs.Common.{◌≡◌, refl, ap, sym, subst, ◌∙◌, ℕ, List, [], ◌∷◌, ◌++◌, length, map, Option, Some}
+use Rattle.std.proofs.Common.{◌≡◌, refl, ap, sym, subst, ◌∙◌, ℕ, List, [], length, map, Some}
 use Rattle.pure_ast.specs.declared.def.Def.{Def}
 use Rattle.pure_ast.specs.declared.def.Defs.{Defs}
 use Rattle.pure_ast.specs.declared.def.PType.{PType}
@@ -46,11 +46,11 @@ texts_formed typed coded text s n e =
     let ds = definitions_formed h typed coded names (same_names text) [] text.definitions s.1 n.1 functions second in
     let tree : Defs = record { types = ts.tree; names = h.functions; defs = ds.tree } in
     let is : definitions text ≡ Some tree =
-        λ i. both (λ (types : List PType) (ds : List Def). record { types = types; names = h.functions; defs = ds }) (ts.is i) (ds.is i) in
+    λ i. both (λ (types : List PType) (ds : List Def). record { types = types; names = h.functions; defs = ds }) (ts.is i) (ds.is i) in
     let same = declared text tree is in
     let heads : definition_heads h.functions text.definitions ≡ map head_of_definition ds.tree = sym (ap (λ (z : Outline). z.definitions) same) in
     let kinds : kinds_in (definition_heads h.functions text.definitions) ≡ map (λ (d : Def). d.kind) ds.tree =
-        ap kinds_in heads ∙ map_twice (λ (x : DefinitionHead). x.kind) head_of_definition ds.tree in
+    ap kinds_in heads ∙ map_twice (λ (x : DefinitionHead). x.kind) head_of_definition ds.tree in
     let order = heads_in_order h.functions [] text.definitions refl (each_kind h names [] text.definitions functions second) in
     let named = each_so IsNamedDeclaration (λ d. IsName d.name.text) (λ d r. r.name) text.types n.0 in
     record {

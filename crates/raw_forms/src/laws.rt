@@ -1,5 +1,8 @@
 ghost use Rattle.raw_forms.specs.Formed.{
-    AtomsAreFormed, CodesAreFormed, TextsAreFormed, TypesAreFormed,
+  AtomsAreFormed,
+  CodesAreFormed,
+  TextsAreFormed,
+  TypesAreFormed,
 };
 
 /// A law: a type in which no rule is broken stands for one that is well-formed under any definitions
