@@ -19,11 +19,13 @@ use Rattle.raw_meaning.specs.OptionLemmas.{none_left, none_right}
 use Rattle.raw_meaning.specs.Outlines.{type_head, definition_heads, outline_of}
 use Rattle.raw_meaning.specs.Trees.{both, definitions}
 use Rattle.raw_forms.specs.Formed.{TypesAreFormed, CodesAreFormed, TextsAreFormed}
+use Rattle.raw_forms.specs.Codes.{code_formed}
 use Rattle.raw_forms.specs.Declarations.{types_differ, declarations_formed}
 use Rattle.raw_forms.specs.Definitions.{each_kind, definitions_formed}
 use Rattle.raw_forms.specs.FunctionOrder.{functions_known, functions_named, AreHeadsInOrder, order_of_heads, heads_in_order}
 use Rattle.raw_forms.specs.Kinds.{kinds_in, kinds_differ}
 use Rattle.raw_forms.specs.Lists.{each_so, each_mapped, map_twice}
+use Rattle.raw_forms.specs.Types.{type_formed}
 
 abbrev head_name : TypeHead → List ℕ
 head_name t = t.name
@@ -33,8 +35,8 @@ same_names : (text : RawText) (d : Defs) → declared_by d ≡ outline_of text �
 same_names text d same =
     sym (map_twice head_name head_of_type d.types) ∙ ap (λ (h : Outline). map head_name h.types) same ∙ map_twice head_name type_head text.types
 
-pub texts_formed : TypesAreFormed → CodesAreFormed → TextsAreFormed
-texts_formed typed coded text s n e =
+formed_of : TypesAreFormed → CodesAreFormed → TextsAreFormed
+formed_of typed coded text s n e =
     let h = outline_of text in
     let names = type_names text.types in
     let one = declarations_faults h [] [] text.types in
@@ -66,3 +68,6 @@ texts_formed typed coded text s n e =
         definitions = ds.fits tree same;
       };
     }
+
+pub text_formed : TextsAreFormed
+text_formed text s n e = formed_of (λ h ps t s e. type_formed h ps t s e) (λ h x s e. code_formed h x s e) text s n e

@@ -1,5 +1,6 @@
-//! What breaks no rule is well-formed: types, atoms and texts as they are spelled, where no rule beside
-//! the grammar is broken, stand for well-formed ones (docs/TEXT.md, "Faults", "Well-formed definitions").
+//! What breaks no rule is well-formed: types, atoms, code and texts as they are spelled, where no rule
+//! beside the grammar is broken, stand for well-formed ones (docs/TEXT.md, "Faults", "Well-formed
+//! definitions").
 #![tactic(auto)]
 
 mod laws;
