@@ -1,6 +1,5 @@
 -- What the steps of reading a text tell.
 use Rattle.std.specs.Prelude.{◌≡◌, ◌⊎◌, ◌<◌, ℕ, Bool, true, false, List, [], length, Option, Some, None, Result, Ok, Err}
-use Rattle.aen_base.specs.declared.limits.Which.{Which}
 use Rattle.aen_base.specs.declared.limits.Which.TheVariants.{TextNesting}
 use Rattle.aen_base.specs.declared.span.Span.{Span}
 use Rattle.pure_ast.specs.declared.def.Defs.{Defs}
