@@ -1,7 +1,7 @@
 -- A turn over declarations and definitions: one more is told, and declared for those after it.
 use Rattle.std.proofs.Common.{◌≡◌, ℕ, ◌+◌, ◌<◌, List, [], ◌∷◌, ◌++◌, length, get_or, drop, refl, ap, sym, ◌∙◌, append_assoc, add-one, drop-cons, suc}
 use Rattle.std.specs.List.{list_all}
-use Rattle.std.specs.Prelude.{Bool, true, Result, Ok, Err}
+use Rattle.std.specs.Prelude.{true, Result, Ok, Err}
 use Rattle.aen_base.specs.declared.span.Span.{Span}
 use Rattle.pure_ast.specs.declared.def.Def.{Def}
 use Rattle.pure_ast.specs.declared.def.DefKind.{DefKind}
