@@ -1,4 +1,4 @@
--- A turn of a walk through a list, its end, and a step that fails.
+-- Atoms are told one by one, and nothing stands behind no items.
 use Rattle.std.proofs.Common.{◌≡◌, List, [], ◌∷◌, refl, ap}
 use Rattle.std.specs.Prelude.{Result, Ok, Err}
 use Rattle.aen_base.specs.declared.span.Span.{Span}
