@@ -7,7 +7,7 @@ exec(open(HERE + "/rust_ast.desc.py").read(), D)
 MODULES = {"SourceTypes": "t", "SourcePatterns": "p", "Source": "s"}
 HEAD = '''-- Programs without their spans: every span is empty.
 -- Written by tools/bare.py from tools/rust_ast.desc.py.
-use Rattle.std.specs.Prelude.{◌≡◌, ℕ, List, [], ◌∷◌, Option, Some, None, map}
+use Rattle.std.specs.Prelude.{◌≡◌, ℕ, List, Option, Some, None, map}
 use Rattle.aen_base.specs.declared.span.Span.{Span}
 use Rattle.rust_ast.specs.declared.ident.Ident.{Ident}
 use Rattle.rust_ast.specs.SourceTypes as t

@@ -1,6 +1,5 @@
 -- Each production makes what keeps what is kept, of values that do. In the order of `makes`.
-use Rattle.std.proofs.Common.{◌≡◌, refl, inl, inr, true, false, List, [], ◌∷◌}
-use Rattle.source_grammar.specs.declared.class.Class.TheVariants as C
+use Rattle.std.proofs.Common.{refl, inl, true, false, []}
 use Rattle.source_grammar.specs.declared.terminal.Terminal.TheVariants as T
 use Rattle.source_grammar.specs.declared.part.Part.{Part}
 use Rattle.source_grammar.specs.declared.part.Part.TheVariants as N

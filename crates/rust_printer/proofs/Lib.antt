@@ -15,6 +15,8 @@ mod ReadPatterns
 mod ReadLevels
 mod ReadOperands
 mod ReadOperators
+mod ReadForms
+mod ReadBlocks
 mod ReadExpressions
 mod ReadItems
 mod Keeps

@@ -1,5 +1,5 @@
 -- What is kept by every program that is read: names that their places allow, and the forms that the grammar gives.
-use Rattle.std.specs.Prelude.{◌≡◌, ◌⊎◌, ℕ, Bool, true, false, List, [], ◌∷◌, Option, Some, None, bytes_eq, codes, drop}
+use Rattle.std.specs.Prelude.{◌≡◌, ◌⊎◌, ℕ, Bool, true, false, List, [], ◌∷◌, Option, Some, None}
 use Rattle.aen_base.specs.declared.span.Span.{Span}
 use Rattle.rust_ast.specs.declared.ident.Ident.{Ident}
 use Rattle.rust_ast.specs.declared.program.Program.{Program}
@@ -12,7 +12,6 @@ use Rattle.rust_ast.specs.declared.program.Variant.{Variant}
 use Rattle.rust_ast.specs.SourceTypes as t
 use Rattle.rust_ast.specs.SourcePatterns as p
 use Rattle.rust_ast.specs.Source as s
-use Rattle.source_grammar.specs.declared.class.Class.{Class}
 use Rattle.source_grammar.specs.declared.class.Class.TheVariants as C
 use Rattle.source_grammar.specs.declared.terminal.Terminal.TheVariants as T
 use Rattle.source_grammar.specs.Lexemes.{has_class}

@@ -1,5 +1,5 @@
 -- Items and programs are read of their tokens.
-use Rattle.std.proofs.Common.{◌≡◌, refl, sym, ap, ◌∙◌, inl, inr, ℕ, Bool, true, false, List, [], ◌∷◌, Option, Some, None, map, subst}
+use Rattle.std.proofs.Common.{◌≡◌, refl, ap, inl, inr, ℕ, Bool, true, false, List, [], ◌∷◌, Option, Some, None, map, subst}
 use Rattle.table_reader.specs.Reading as R
 use Rattle.aen_base.specs.declared.span.Span.{Span}
 use Rattle.source_grammar.specs.declared.class.Class.TheVariants as C
@@ -16,18 +16,21 @@ use Rattle.rust_ast.specs.declared.program.Fields.{Fields}
 use Rattle.rust_ast.specs.declared.program.Fields.TheVariants as has_fields
 use Rattle.rust_ast.specs.declared.program.Variant.{Variant}
 use Rattle.rust_ast.specs.SourceTypes as t
-use Rattle.source_ways.specs.Reading.{Reads}
-use Rattle.source_ways.specs.Says.{ident, name_in}
+use Rattle.source_grammar.specs.Lexemes.{takes}
+use Rattle.source_ways.specs.Carriers.{Carrier}
+use Rattle.source_ways.specs.Reading.{Reads, made}
+use Rattle.source_ways.specs.Says.{name_in}
 use Rattle.source_ways.specs.Items.{fields_in_braces}
-use Rattle.rust_printer.specs.Tok.{Tok, mark}
-use Rattle.rust_printer.specs.TypeTokens.{types_tokens}
-use Rattle.rust_printer.specs.Tokens.{names_tokens, lifetimes_tokens, generics_tokens, params_tokens, result_tokens, named_fields_tokens, fields_tokens, variants_tokens, item_tokens, items_tokens, program_tokens}
-use Rattle.rust_printer.specs.Bare.{nowhere, bare_ident, bare_written, bare_block, bare_result, bare_types, bare_param, bare_field, bare_fields, bare_variant, bare_item, bare_program, Same}
+use Rattle.rust_printer.specs.Tok.{Tok, mark, named}
+use Rattle.rust_printer.specs.WordTokens.{mut_tokens}
+use Rattle.rust_printer.specs.TypeTokens.{type_tokens, types_tokens}
+use Rattle.rust_printer.specs.Tokens.{names_tokens, lifetimes_tokens, params_tokens, result_tokens, named_fields_tokens, fields_tokens, variants_tokens, item_tokens, items_tokens, program_tokens}
+use Rattle.rust_printer.specs.Bare.{nowhere, bare_ident, bare_written, bare_result, bare_types, bare_param, bare_field, bare_fields, bare_variant, bare_item, Same}
 use Rattle.rust_printer.specs.Laid.{Laid}
 use Rattle.rust_printer.specs.Laid as L
-use Rattle.rust_printer.proofs.Printable.{IsName, AreNames, AreParams, IsResult, AreFields, HasFields, AreVariants, IsItem, AreItems, IsProgram, AreTypes}
+use Rattle.rust_printer.proofs.Printable.{IsName, IsType, AreNames, AreParams, IsResult, AreFields, HasFields, AreVariants, IsItem, AreItems, IsProgram, AreTypes}
 use Rattle.rust_printer.proofs.ReadCommon.{Read, read_by, off, tok}
-use Rattle.rust_printer.proofs.ReadTypes.{at_nowhere, type_read, types_read}
+use Rattle.rust_printer.proofs.ReadTypes.{at_nowhere, type_read}
 use Rattle.rust_printer.proofs.ReadExpressions.{block_read}
 
 names_read : (names : List Ident) → AreNames names → (at : ℕ) (more : List Tok) (ls : List Lexeme) → Laid at (names_tokens names (mark C.Greater ∷ more)) ls → Read (N.List Of.TypeNames) (λ v. map bare_ident v ≡ map bare_ident names) more ls
@@ -52,28 +55,29 @@ lifetimes_read (life ∷ lifetimes) names ok at more ls laid =
     let y = lifetimes_read lifetimes names ok a.at more a.rest a.left in
     read_by _ (inr (inl refl)) _ y.rest (tok o T.Lifetime refl refl (R.part (R.by _ (inr (inl refl)) _ (tok a T.Comma refl refl (R.part y.reads R.nothing))) R.nothing)) ((λ i. at_nowhere (name_in (o.content i)) ∷ y.is.0 i), y.is.1) y.left
 
-by_mutable : (param : Param) (params : List Param) → AreParams (param ∷ params) → (at : ℕ) (more : List Tok) (ls : List Lexeme) → Laid at (params_tokens (param ∷ params) (mark C.CloseBracket ∷ more)) ls →
+by_mutable : (mutable : Bool) (name : Ident) (ty : t.Written) (params : List Param) → IsName name.name → IsType ty → (at : ℕ) (more : List Tok) (ls : List Lexeme) →
+    Laid at (mut_tokens mutable (named name.name ∷ (mark C.Colon ∷ type_tokens ty (mark C.Comma ∷ params_tokens params (mark C.CloseBracket ∷ more))))) ls →
     ((from : ℕ) (us : List Lexeme) → Laid from (params_tokens params (mark C.CloseBracket ∷ more)) us → Read (N.List Of.Parameters) (λ v. map bare_param v ≡ map bare_param params) more us) →
-    Read (N.List Of.Parameters) (λ v. map bare_param v ≡ map bare_param (param ∷ params)) more ls
-by_mutable (record { mutable = true; name = name; ty = ty }) params ok at more ls laid f =
+    Read (N.List Of.Parameters) (λ v. map bare_param v ≡ (record { mutable = mutable; name = bare_ident name; ty = bare_written ty }) ∷ map bare_param params) more ls
+by_mutable true name ty params ok fits at more ls laid f =
     let m = off laid in
     let o = off m.left in
     let b = off o.left in
-    let x = type_read ty ok.1.0 b.at _ b.rest b.left in
+    let x = type_read ty fits b.at _ b.rest b.left in
     let a = off x.left in
     let y = f a.at a.rest a.left in
-    read_by _ (inr (inl refl)) _ y.rest (R.part (R.by _ (inl refl) _ (tok m T.Mut refl refl (tok o T.Identifier ok.0 refl (tok b T.Colon refl refl (R.part x.reads R.nothing))))) (R.part (R.by _ (inr (inl refl)) _ (tok a T.Comma refl refl (R.part y.reads R.nothing))) R.nothing)) (λ i. (record { mutable = true; name = at_nowhere (name_in (o.content i)); ty = x.is i }) ∷ y.is i) y.left
-by_mutable (record { mutable = false; name = name; ty = ty }) params ok at more ls laid f =
+    read_by _ (inr (inl refl)) _ y.rest (R.part (R.by _ (inl refl) _ (tok m T.Mut refl refl (tok o T.Identifier ok refl (tok b T.Colon refl refl (R.part x.reads R.nothing))))) (R.part (R.by _ (inr (inl refl)) _ (tok a T.Comma refl refl (R.part y.reads R.nothing))) R.nothing)) (λ i. (record { mutable = true; name = at_nowhere (name_in (o.content i)); ty = x.is i }) ∷ y.is i) y.left
+by_mutable false name ty params ok fits at more ls laid f =
     let o = off laid in
     let b = off o.left in
-    let x = type_read ty ok.1.0 b.at _ b.rest b.left in
+    let x = type_read ty fits b.at _ b.rest b.left in
     let a = off x.left in
     let y = f a.at a.rest a.left in
-    read_by _ (inr (inl refl)) _ y.rest (R.part (R.by _ (inr (inl refl)) _ (tok o T.Identifier ok.0 refl (tok b T.Colon refl refl (R.part x.reads R.nothing)))) (R.part (R.by _ (inr (inl refl)) _ (tok a T.Comma refl refl (R.part y.reads R.nothing))) R.nothing)) (λ i. (record { mutable = false; name = at_nowhere (name_in (o.content i)); ty = x.is i }) ∷ y.is i) y.left
+    read_by _ (inr (inl refl)) _ y.rest (R.part (R.by _ (inr (inl refl)) _ (tok o T.Identifier ok refl (tok b T.Colon refl refl (R.part x.reads R.nothing)))) (R.part (R.by _ (inr (inl refl)) _ (tok a T.Comma refl refl (R.part y.reads R.nothing))) R.nothing)) (λ i. (record { mutable = false; name = at_nowhere (name_in (o.content i)); ty = x.is i }) ∷ y.is i) y.left
 
 params_read : (params : List Param) → AreParams params → (at : ℕ) (more : List Tok) (ls : List Lexeme) → Laid at (params_tokens params (mark C.CloseBracket ∷ more)) ls → Read (N.List Of.Parameters) (λ v. map bare_param v ≡ map bare_param params) more ls
 params_read [] ok at more ls laid = let o = off laid in read_by _ (inl refl) _ o.rest (tok o T.CloseBracket refl refl R.nothing) (refl) o.left
-params_read (param ∷ params) ok at more ls laid = by_mutable param params ok at more ls laid (λ from us l. params_read params ok.1.1 from more us l)
+params_read (param ∷ params) ok at more ls laid = by_mutable param.mutable param.name param.ty params ok.0 ok.1.0 at more ls laid (λ from us l. params_read params ok.1.1 from more us l)
 
 result_read : (result : Option t.Written) → IsResult result → (at : ℕ) (more : List Tok) (ls : List Lexeme) → Laid at (result_tokens result more) ls → Read N.Result (λ v. bare_result v ≡ bare_result result) more ls
 result_read None ok at more ls laid = read_by _ (inl refl) _ ls R.nothing refl laid
@@ -190,4 +194,4 @@ all_read L.nothing = refl
 pub read_back : (x : Program) → IsProgram x → (ls : List Lexeme) → Laid 0 (program_tokens x) ls → (q : Program) × (Reads ls q × Same q x)
 read_back x ok ls laid =
     let r = whole_read x.items ok 0 [] ls laid in
-    (record { items = r.value.value }, ((r.value, (subst (λ us. R.Reads _ _ _ N.Program ls us r.value) (all_read r.left) r.reads, refl)), (λ i. record { items = r.is i })))
+    (record { items = r.value.value }, ((r.value, (subst (λ us. R.Reads takes Carrier made N.Program ls us r.value) (all_read r.left) r.reads, refl)), (λ i. record { items = r.is i })))

@@ -1,26 +1,23 @@
 -- An operand is read as an expression of each level above it, and two of them with an operator between.
-use Rattle.std.proofs.Common.{◌≡◌, ◌⊎◌, refl, sym, ap, ◌∙◌, inl, inr, ℕ, Bool, true, false, List, [], ◌∷◌, Option, Some, None, codes}
-use denote.Enum.Bare.{sameb}
+use Rattle.std.proofs.Common.{◌≡◌, refl, sym, ap, ◌∙◌, inl, inr, ℕ, Bool, true, false, List, ◌∷◌}
 use Rattle.table_reader.specs.Reading as R
 use Rattle.source_grammar.specs.declared.class.Class.{Class}
-use Rattle.source_grammar.specs.declared.class.Class.TheVariants as C
 use Rattle.source_grammar.specs.declared.lexeme.Lexeme.{Lexeme}
 use Rattle.source_grammar.specs.declared.terminal.Terminal.TheVariants as T
 use Rattle.source_grammar.specs.declared.part.Part.TheVariants as N
 use Rattle.source_grammar.specs.declared.part.Context.{Context}
 use Rattle.source_grammar.specs.declared.part.Context.TheVariants as At
 use Rattle.source_grammar.specs.declared.part.Level.TheVariants as L
-use Rattle.source_grammar.specs.declared.part.Listed.TheVariants as Of
 use Rattle.source_grammar.specs.Lexemes.{has_class}
 use Rattle.aen_base.specs.declared.span.Span.{Span}
 use Rattle.rust_ast.specs.Source as s
 use Rattle.source_ways.specs.declared.operations.Join.{Join}
 use Rattle.source_ways.specs.declared.operations.Join.TheVariants as by
 use Rattle.source_ways.specs.Operators.{join_of, joined_by, joined, negated}
-use Rattle.rust_printer.specs.Tok.{Tok, mark, class_of}
+use Rattle.rust_printer.specs.Tok.{Tok, class_of}
 use Rattle.rust_printer.specs.Bare.{bare_expr, nowhere}
 use Rattle.rust_printer.specs.Laid.{Laid}
-use Rattle.rust_printer.proofs.ReadCommon.{Read, read_by, Off, off, tok}
+use Rattle.rust_printer.proofs.ReadCommon.{Read, read_by, off, tok}
 
 abbrev pub Is : s.Expr → s.Expr → Type 0
 Is target v = bare_expr v ≡ target
@@ -116,74 +113,84 @@ joined_by_bare by.Assign span a b = refl
 pub joined_bare : (c : Class) (span : Span) (a b : s.Expr) → bare_expr (joined c span a b) ≡ joined c nowhere (bare_expr a) (bare_expr b)
 joined_bare c span a b = joined_by_bare (join_of c) span a b
 
-pub two_product : {x y : s.Expr} {t : Tok} {ts us more : List Tok} {ls : List Lexeme} (a : Read (N.Unary At.Free) (Is x) us ls) (o : Off t ts a.rest) →
-    has_class T.ProductOp (class_of t) ≡ true → (b : Read (N.Unary At.Free) (Is y) more o.rest) → Read (N.Expression At.Free) (Is (joined (class_of t) nowhere x y)) more ls
-two_product {x} {y} {t} a o h b =
+pub two_product : {x y : s.Expr} {t : Tok} {ts more : List Tok} {ls : List Lexeme} → Read (N.Unary At.Free) (Is x) (t ∷ ts) ls → has_class T.ProductOp (class_of t) ≡ true →
+    ((from : ℕ) (us : List Lexeme) → Laid from ts us → Read (N.Unary At.Free) (Is y) more us) → Read (N.Expression At.Free) (Is (joined (class_of t) nowhere x y)) more ls
+two_product {x} {y} {t} a h next =
     let left = up_cast a in
-    let right = up_cast b in
+    let o = off left.left in
+    let right = up_cast (next o.at o.rest o.left) in
     up_free (up_or (up_and (up_compare (up_bitor (up_xor (up_bitand (up_shift (up_sum (read_by {n = N.Level L.Product At.Free} _ (inl refl) _ right.rest (R.part left.reads (R.part (R.by _ (inr (inl refl)) _ (tok o T.ProductOp h refl (R.part right.reads (R.part (R.by _ (inl refl) _ R.nothing) R.nothing)))) R.nothing)) (joined_bare o.lexeme.class _ left.value.value right.value.value ∙ (λ i. joined (o.class i) nowhere (left.is i) (right.is i))) right.left)))))))))
 
-pub two_sum : {x y : s.Expr} {t : Tok} {ts us more : List Tok} {ls : List Lexeme} (a : Read (N.Unary At.Free) (Is x) us ls) (o : Off t ts a.rest) →
-    has_class T.SumOp (class_of t) ≡ true → (b : Read (N.Unary At.Free) (Is y) more o.rest) → Read (N.Expression At.Free) (Is (joined (class_of t) nowhere x y)) more ls
-two_sum {x} {y} {t} a o h b =
+pub two_sum : {x y : s.Expr} {t : Tok} {ts more : List Tok} {ls : List Lexeme} → Read (N.Unary At.Free) (Is x) (t ∷ ts) ls → has_class T.SumOp (class_of t) ≡ true →
+    ((from : ℕ) (us : List Lexeme) → Laid from ts us → Read (N.Unary At.Free) (Is y) more us) → Read (N.Expression At.Free) (Is (joined (class_of t) nowhere x y)) more ls
+two_sum {x} {y} {t} a h next =
     let left = up_product (up_cast a) in
-    let right = up_product (up_cast b) in
+    let o = off left.left in
+    let right = up_product (up_cast (next o.at o.rest o.left)) in
     up_free (up_or (up_and (up_compare (up_bitor (up_xor (up_bitand (up_shift (read_by {n = N.Level L.Sum At.Free} _ (inl refl) _ right.rest (R.part left.reads (R.part (R.by _ (inr (inl refl)) _ (tok o T.SumOp h refl (R.part right.reads (R.part (R.by _ (inl refl) _ R.nothing) R.nothing)))) R.nothing)) (joined_bare o.lexeme.class _ left.value.value right.value.value ∙ (λ i. joined (o.class i) nowhere (left.is i) (right.is i))) right.left))))))))
 
-pub two_shift : {x y : s.Expr} {t : Tok} {ts us more : List Tok} {ls : List Lexeme} (a : Read (N.Unary At.Free) (Is x) us ls) (o : Off t ts a.rest) →
-    has_class T.ShiftOp (class_of t) ≡ true → (b : Read (N.Unary At.Free) (Is y) more o.rest) → Read (N.Expression At.Free) (Is (joined (class_of t) nowhere x y)) more ls
-two_shift {x} {y} {t} a o h b =
+pub two_shift : {x y : s.Expr} {t : Tok} {ts more : List Tok} {ls : List Lexeme} → Read (N.Unary At.Free) (Is x) (t ∷ ts) ls → has_class T.ShiftOp (class_of t) ≡ true →
+    ((from : ℕ) (us : List Lexeme) → Laid from ts us → Read (N.Unary At.Free) (Is y) more us) → Read (N.Expression At.Free) (Is (joined (class_of t) nowhere x y)) more ls
+two_shift {x} {y} {t} a h next =
     let left = up_sum (up_product (up_cast a)) in
-    let right = up_sum (up_product (up_cast b)) in
+    let o = off left.left in
+    let right = up_sum (up_product (up_cast (next o.at o.rest o.left))) in
     up_free (up_or (up_and (up_compare (up_bitor (up_xor (up_bitand (read_by {n = N.Level L.Shift At.Free} _ (inl refl) _ right.rest (R.part left.reads (R.part (R.by _ (inr (inl refl)) _ (tok o T.ShiftOp h refl (R.part right.reads (R.part (R.by _ (inl refl) _ R.nothing) R.nothing)))) R.nothing)) (joined_bare o.lexeme.class _ left.value.value right.value.value ∙ (λ i. joined (o.class i) nowhere (left.is i) (right.is i))) right.left)))))))
 
-pub two_bitand : {x y : s.Expr} {t : Tok} {ts us more : List Tok} {ls : List Lexeme} (a : Read (N.Unary At.Free) (Is x) us ls) (o : Off t ts a.rest) →
-    has_class T.And (class_of t) ≡ true → (b : Read (N.Unary At.Free) (Is y) more o.rest) → Read (N.Expression At.Free) (Is (joined (class_of t) nowhere x y)) more ls
-two_bitand {x} {y} {t} a o h b =
+pub two_bitand : {x y : s.Expr} {t : Tok} {ts more : List Tok} {ls : List Lexeme} → Read (N.Unary At.Free) (Is x) (t ∷ ts) ls → has_class T.And (class_of t) ≡ true →
+    ((from : ℕ) (us : List Lexeme) → Laid from ts us → Read (N.Unary At.Free) (Is y) more us) → Read (N.Expression At.Free) (Is (joined (class_of t) nowhere x y)) more ls
+two_bitand {x} {y} {t} a h next =
     let left = up_shift (up_sum (up_product (up_cast a))) in
-    let right = up_shift (up_sum (up_product (up_cast b))) in
+    let o = off left.left in
+    let right = up_shift (up_sum (up_product (up_cast (next o.at o.rest o.left)))) in
     up_free (up_or (up_and (up_compare (up_bitor (up_xor (read_by {n = N.Level L.BitAnd At.Free} _ (inl refl) _ right.rest (R.part left.reads (R.part (R.by _ (inr (inl refl)) _ (tok o T.And h refl (R.part right.reads (R.part (R.by _ (inl refl) _ R.nothing) R.nothing)))) R.nothing)) (joined_bare o.lexeme.class _ left.value.value right.value.value ∙ (λ i. joined (o.class i) nowhere (left.is i) (right.is i))) right.left))))))
 
-pub two_xor : {x y : s.Expr} {t : Tok} {ts us more : List Tok} {ls : List Lexeme} (a : Read (N.Unary At.Free) (Is x) us ls) (o : Off t ts a.rest) →
-    has_class T.Caret (class_of t) ≡ true → (b : Read (N.Unary At.Free) (Is y) more o.rest) → Read (N.Expression At.Free) (Is (joined (class_of t) nowhere x y)) more ls
-two_xor {x} {y} {t} a o h b =
+pub two_xor : {x y : s.Expr} {t : Tok} {ts more : List Tok} {ls : List Lexeme} → Read (N.Unary At.Free) (Is x) (t ∷ ts) ls → has_class T.Caret (class_of t) ≡ true →
+    ((from : ℕ) (us : List Lexeme) → Laid from ts us → Read (N.Unary At.Free) (Is y) more us) → Read (N.Expression At.Free) (Is (joined (class_of t) nowhere x y)) more ls
+two_xor {x} {y} {t} a h next =
     let left = up_bitand (up_shift (up_sum (up_product (up_cast a)))) in
-    let right = up_bitand (up_shift (up_sum (up_product (up_cast b)))) in
+    let o = off left.left in
+    let right = up_bitand (up_shift (up_sum (up_product (up_cast (next o.at o.rest o.left))))) in
     up_free (up_or (up_and (up_compare (up_bitor (read_by {n = N.Level L.Xor At.Free} _ (inl refl) _ right.rest (R.part left.reads (R.part (R.by _ (inr (inl refl)) _ (tok o T.Caret h refl (R.part right.reads (R.part (R.by _ (inl refl) _ R.nothing) R.nothing)))) R.nothing)) (joined_bare o.lexeme.class _ left.value.value right.value.value ∙ (λ i. joined (o.class i) nowhere (left.is i) (right.is i))) right.left)))))
 
-pub two_bitor : {x y : s.Expr} {t : Tok} {ts us more : List Tok} {ls : List Lexeme} (a : Read (N.Unary At.Free) (Is x) us ls) (o : Off t ts a.rest) →
-    has_class T.Bar (class_of t) ≡ true → (b : Read (N.Unary At.Free) (Is y) more o.rest) → Read (N.Expression At.Free) (Is (joined (class_of t) nowhere x y)) more ls
-two_bitor {x} {y} {t} a o h b =
+pub two_bitor : {x y : s.Expr} {t : Tok} {ts more : List Tok} {ls : List Lexeme} → Read (N.Unary At.Free) (Is x) (t ∷ ts) ls → has_class T.Bar (class_of t) ≡ true →
+    ((from : ℕ) (us : List Lexeme) → Laid from ts us → Read (N.Unary At.Free) (Is y) more us) → Read (N.Expression At.Free) (Is (joined (class_of t) nowhere x y)) more ls
+two_bitor {x} {y} {t} a h next =
     let left = up_xor (up_bitand (up_shift (up_sum (up_product (up_cast a))))) in
-    let right = up_xor (up_bitand (up_shift (up_sum (up_product (up_cast b))))) in
+    let o = off left.left in
+    let right = up_xor (up_bitand (up_shift (up_sum (up_product (up_cast (next o.at o.rest o.left)))))) in
     up_free (up_or (up_and (up_compare (read_by {n = N.Level L.BitOr At.Free} _ (inl refl) _ right.rest (R.part left.reads (R.part (R.by _ (inr (inl refl)) _ (tok o T.Bar h refl (R.part right.reads (R.part (R.by _ (inl refl) _ R.nothing) R.nothing)))) R.nothing)) (joined_bare o.lexeme.class _ left.value.value right.value.value ∙ (λ i. joined (o.class i) nowhere (left.is i) (right.is i))) right.left))))
 
-pub two_compare : {x y : s.Expr} {t : Tok} {ts us more : List Tok} {ls : List Lexeme} (a : Read (N.Unary At.Free) (Is x) us ls) (o : Off t ts a.rest) →
-    has_class T.CompareOp (class_of t) ≡ true → (b : Read (N.Unary At.Free) (Is y) more o.rest) → Read (N.Expression At.Free) (Is (joined (class_of t) nowhere x y)) more ls
-two_compare {x} {y} {t} a o h b =
+pub two_compare : {x y : s.Expr} {t : Tok} {ts more : List Tok} {ls : List Lexeme} → Read (N.Unary At.Free) (Is x) (t ∷ ts) ls → has_class T.CompareOp (class_of t) ≡ true →
+    ((from : ℕ) (us : List Lexeme) → Laid from ts us → Read (N.Unary At.Free) (Is y) more us) → Read (N.Expression At.Free) (Is (joined (class_of t) nowhere x y)) more ls
+two_compare {x} {y} {t} a h next =
     let left = up_bitor (up_xor (up_bitand (up_shift (up_sum (up_product (up_cast a)))))) in
-    let right = up_bitor (up_xor (up_bitand (up_shift (up_sum (up_product (up_cast b)))))) in
+    let o = off left.left in
+    let right = up_bitor (up_xor (up_bitand (up_shift (up_sum (up_product (up_cast (next o.at o.rest o.left))))))) in
     up_free (up_or (up_and (read_by {n = N.Level L.Compare At.Free} _ (inl refl) _ right.rest (R.part left.reads (R.part (R.by _ (inr (inl refl)) _ (tok o T.CompareOp h refl (R.part right.reads (R.nothing)))) R.nothing)) (joined_bare o.lexeme.class _ left.value.value right.value.value ∙ (λ i. joined (o.class i) nowhere (left.is i) (right.is i))) right.left)))
 
-pub two_and : {x y : s.Expr} {t : Tok} {ts us more : List Tok} {ls : List Lexeme} (a : Read (N.Unary At.Free) (Is x) us ls) (o : Off t ts a.rest) →
-    has_class T.AndAnd (class_of t) ≡ true → (b : Read (N.Unary At.Free) (Is y) more o.rest) → Read (N.Expression At.Free) (Is (joined (class_of t) nowhere x y)) more ls
-two_and {x} {y} {t} a o h b =
+pub two_and : {x y : s.Expr} {t : Tok} {ts more : List Tok} {ls : List Lexeme} → Read (N.Unary At.Free) (Is x) (t ∷ ts) ls → has_class T.AndAnd (class_of t) ≡ true →
+    ((from : ℕ) (us : List Lexeme) → Laid from ts us → Read (N.Unary At.Free) (Is y) more us) → Read (N.Expression At.Free) (Is (joined (class_of t) nowhere x y)) more ls
+two_and {x} {y} {t} a h next =
     let left = up_compare (up_bitor (up_xor (up_bitand (up_shift (up_sum (up_product (up_cast a))))))) in
-    let right = up_compare (up_bitor (up_xor (up_bitand (up_shift (up_sum (up_product (up_cast b))))))) in
+    let o = off left.left in
+    let right = up_compare (up_bitor (up_xor (up_bitand (up_shift (up_sum (up_product (up_cast (next o.at o.rest o.left)))))))) in
     up_free (up_or (read_by {n = N.Level L.And At.Free} _ (inl refl) _ right.rest (R.part left.reads (R.part (R.by _ (inr (inl refl)) _ (tok o T.AndAnd h refl (R.part right.reads (R.part (R.by _ (inl refl) _ R.nothing) R.nothing)))) R.nothing)) (joined_bare o.lexeme.class _ left.value.value right.value.value ∙ (λ i. joined (o.class i) nowhere (left.is i) (right.is i))) right.left))
 
-pub two_or : {x y : s.Expr} {t : Tok} {ts us more : List Tok} {ls : List Lexeme} (a : Read (N.Unary At.Free) (Is x) us ls) (o : Off t ts a.rest) →
-    has_class T.BarBar (class_of t) ≡ true → (b : Read (N.Unary At.Free) (Is y) more o.rest) → Read (N.Expression At.Free) (Is (joined (class_of t) nowhere x y)) more ls
-two_or {x} {y} {t} a o h b =
+pub two_or : {x y : s.Expr} {t : Tok} {ts more : List Tok} {ls : List Lexeme} → Read (N.Unary At.Free) (Is x) (t ∷ ts) ls → has_class T.BarBar (class_of t) ≡ true →
+    ((from : ℕ) (us : List Lexeme) → Laid from ts us → Read (N.Unary At.Free) (Is y) more us) → Read (N.Expression At.Free) (Is (joined (class_of t) nowhere x y)) more ls
+two_or {x} {y} {t} a h next =
     let left = up_and (up_compare (up_bitor (up_xor (up_bitand (up_shift (up_sum (up_product (up_cast a)))))))) in
-    let right = up_and (up_compare (up_bitor (up_xor (up_bitand (up_shift (up_sum (up_product (up_cast b)))))))) in
+    let o = off left.left in
+    let right = up_and (up_compare (up_bitor (up_xor (up_bitand (up_shift (up_sum (up_product (up_cast (next o.at o.rest o.left))))))))) in
     up_free (read_by {n = N.Level L.Or At.Free} _ (inl refl) _ right.rest (R.part left.reads (R.part (R.by _ (inr (inl refl)) _ (tok o T.BarBar h refl (R.part right.reads (R.part (R.by _ (inl refl) _ R.nothing) R.nothing)))) R.nothing)) (joined_bare o.lexeme.class _ left.value.value right.value.value ∙ (λ i. joined (o.class i) nowhere (left.is i) (right.is i))) right.left)
 
-pub two_assign : {x y : s.Expr} {t : Tok} {ts us more : List Tok} {ls : List Lexeme} (a : Read (N.Unary At.Free) (Is x) us ls) (o : Off t ts a.rest) →
-    has_class T.AssignOp (class_of t) ≡ true → (b : Read (N.Unary At.Free) (Is y) more o.rest) → Read (N.Expression At.Free) (Is (joined (class_of t) nowhere x y)) more ls
-two_assign {x} {y} {t} a o h b =
+pub two_assign : {x y : s.Expr} {t : Tok} {ts more : List Tok} {ls : List Lexeme} → Read (N.Unary At.Free) (Is x) (t ∷ ts) ls → has_class T.AssignOp (class_of t) ≡ true →
+    ((from : ℕ) (us : List Lexeme) → Laid from ts us → Read (N.Unary At.Free) (Is y) more us) → Read (N.Expression At.Free) (Is (joined (class_of t) nowhere x y)) more ls
+two_assign {x} {y} {t} a h next =
     let left = up_or (up_and (up_compare (up_bitor (up_xor (up_bitand (up_shift (up_sum (up_product (up_cast a))))))))) in
-    let right = up_or (up_and (up_compare (up_bitor (up_xor (up_bitand (up_shift (up_sum (up_product (up_cast b))))))))) in
+    let o = off left.left in
+    let right = up_or (up_and (up_compare (up_bitor (up_xor (up_bitand (up_shift (up_sum (up_product (up_cast (next o.at o.rest o.left)))))))))) in
     read_by _ (inr (inr (inr (inl refl)))) _ right.rest (R.part left.reads (R.part (R.by _ (inr (inl refl)) _ (tok o T.AssignOp h refl (R.part right.reads R.nothing))) R.nothing))
     (joined_bare o.lexeme.class _ left.value.value right.value.value ∙ (λ i. joined (o.class i) nowhere (left.is i) (right.is i))) right.left
 

@@ -94,9 +94,9 @@ other_node e no_operand nc nb ne x = record {
 
 -- ---- in brackets
 
-pub brackets_core : {m : Context} {e : s.Expr} {more : List Tok} {ls : List Lexeme} (o : Off (mark C.OpenBracket) (expr_tokens e (mark C.CloseBracket ∷ more)) ls) →
+pub brackets_core : {m : Context} (e : s.Expr) {more : List Tok} {ls : List Lexeme} (o : Off (mark C.OpenBracket) (expr_tokens e (mark C.CloseBracket ∷ more)) ls) →
     Read (N.Expression At.Free) (Is (bare_expr e)) (mark C.CloseBracket ∷ more) o.rest → Read (N.Core m) (Is (bare_expr e)) more ls
-brackets_core o x =
+brackets_core e o x =
     let c = off x.left in
     read_by _ (inr (inr (inl refl))) _ c.rest (tok o T.OpenBracket refl refl (R.part (R.by _ (inr (inl refl)) _ (R.part x.reads (R.part (R.by _ (inl refl) _ (tok c T.CloseBracket refl refl R.nothing)) R.nothing))) R.nothing)) x.is c.left
 
@@ -104,18 +104,18 @@ brackets_core o x =
 pub condition_read : (e : s.Expr) → Reader e → (at : ℕ) (more : List Tok) (ls : List Lexeme) → Laid at (mark C.OpenBracket ∷ expr_tokens e (mark C.CloseBracket ∷ more)) ls →
     Read (N.Expression At.Condition) (Is (bare_expr e)) more ls
 condition_read e r at more ls laid =
-    let o = off laid in condition_of (unary_of_core (brackets_core {e = e} o (r o.at _ o.rest o.left).expression))
+    let o = off laid in condition_of (unary_of_core (brackets_core e o (r o.at _ o.rest o.left).expression))
 
 operand_by : (b : Bool) (e : s.Expr) → is_operand e ≡ b → Reader e → (at : ℕ) (more : List Tok) (ls : List Lexeme) → Laid at (in_brackets_unless b (expr_tokens e) more) ls → Operand (bare_expr e) more ls
 operand_by true e h r at more ls laid = (r at more ls laid).operand h
-operand_by false e h r at more ls laid = let o = off laid in operand_of_core (brackets_core {e = e} o (r o.at _ o.rest o.left).expression)
+operand_by false e h r at more ls laid = let o = off laid in operand_of_core (brackets_core e o (r o.at _ o.rest o.left).expression)
 
 pub operand_read : (e : s.Expr) → Reader e → (at : ℕ) (more : List Tok) (ls : List Lexeme) → Laid at (in_brackets_unless (is_operand e) (expr_tokens e) more) ls → Operand (bare_expr e) more ls
 operand_read e r at more ls laid = operand_by (is_operand e) e refl r at more ls laid
 
 pub core_by : (b : Bool) (e : s.Expr) → is_core e ≡ b → Reader e → (at : ℕ) (more : List Tok) (ls : List Lexeme) → Laid at (in_brackets_unless b (expr_tokens e) more) ls → Read (N.Core At.Free) (Is (bare_expr e)) more ls
 core_by true e h r at more ls laid = (r at more ls laid).core h
-core_by false e h r at more ls laid = let o = off laid in brackets_core {e = e} o (r o.at _ o.rest o.left).expression
+core_by false e h r at more ls laid = let o = off laid in brackets_core e o (r o.at _ o.rest o.left).expression
 
 -- at the beginning of a statement
 pub data Leads (e : s.Expr) (more : List Tok) (ls : List Lexeme) : Type 0 where
@@ -157,7 +157,7 @@ leads_as e more ls x (inr h) = ends (x.block_like h)
 
 pub leading_by : (b : Bool) (e : s.Expr) → is_leading e ≡ b → Reader e → (at : ℕ) (more : List Tok) (ls : List Lexeme) → Laid at (in_brackets_unless b (expr_tokens e) more) ls → Leads (bare_expr e) more ls
 leading_by true e h r at more ls laid = leads_as e more ls (r at more ls laid) (leading_form e h)
-leading_by false e h r at more ls laid = let o = off laid in leads (leading_of_unary (operand_of_core (brackets_core {e = e} o (r o.at _ o.rest o.left).expression)).leading)
+leading_by false e h r at more ls laid = let o = off laid in leads (leading_of_unary (operand_of_core (brackets_core e o (r o.at _ o.rest o.left).expression)).leading)
 
 -- ---- numbers, fields
 
@@ -216,7 +216,7 @@ minus_by true (s.number w false size suffix) h r at more ls laid =
       unary = read_by _ (inl refl) _ c.rest (tok a T.Minus refl refl (R.part (R.by _ (inr (inr (inr (inr (inl refl))))) _ (R.part (R.by _ (inr (inr (inl refl))) _ (tok o T.OpenBracket refl refl (R.part (R.by _ (inr (inl refl)) _ (R.part (R.by _ (inr (inr (inr (inl refl)))) _ (R.part (R.by _ (inl refl) _ (R.part (R.by _ (inl refl) _ (R.part (R.by _ (inl refl) _ (R.part (R.by _ (inl refl) _ (R.part (R.by _ (inl refl) _ (R.part (R.by _ (inl refl) _ (R.part (R.by _ (inl refl) _ (R.part (R.by _ (inl refl) _ (R.part (R.by _ (inl refl) _ (R.part (R.by _ (inl refl) _ (R.part (R.by _ (inr (inr (inr (inr (inl refl))))) _ (R.part (R.by _ (inl refl) _ (tok n T.Integer refl refl R.nothing)) (R.part (R.by _ (inl refl) _ R.nothing) R.nothing))) (R.part (R.by _ (inl refl) _ R.nothing) R.nothing))) (R.part (R.by _ (inl refl) _ R.nothing) R.nothing))) (R.part (R.by _ (inl refl) _ R.nothing) R.nothing))) (R.part (R.by _ (inl refl) _ R.nothing) R.nothing))) (R.part (R.by _ (inl refl) _ R.nothing) R.nothing))) (R.part (R.by _ (inl refl) _ R.nothing) R.nothing))) (R.part (R.by _ (inl refl) _ R.nothing) R.nothing))) (R.part (R.by _ (inl refl) _ R.nothing) R.nothing))) (R.part (R.by _ (inl refl) _ R.nothing) R.nothing))) (R.part (R.by _ (inl refl) _ R.nothing) R.nothing))) (R.part (R.by _ (inl refl) _ R.nothing) R.nothing))) (R.part (R.by _ (inl refl) _ (tok c T.CloseBracket refl refl R.nothing)) R.nothing))) R.nothing))) (R.part (R.by _ (inl refl) _ R.nothing) R.nothing))) R.nothing)) (positive_is _ _ n.lexeme.span size suffix n.lexeme.content n.content (ne_eqb n.lexeme.span.lo o.lexeme.span.lo (λ e. omega (arith, e, q.less)))) c.left;
       leading = read_by _ (inl refl) _ c.rest (tok a T.Minus refl refl (R.part (R.by _ (inr (inr (inr (inr (inl refl))))) _ (R.part (R.by _ (inr (inr (inl refl))) _ (tok o T.OpenBracket refl refl (R.part (R.by _ (inr (inl refl)) _ (R.part (R.by _ (inr (inr (inr (inl refl)))) _ (R.part (R.by _ (inl refl) _ (R.part (R.by _ (inl refl) _ (R.part (R.by _ (inl refl) _ (R.part (R.by _ (inl refl) _ (R.part (R.by _ (inl refl) _ (R.part (R.by _ (inl refl) _ (R.part (R.by _ (inl refl) _ (R.part (R.by _ (inl refl) _ (R.part (R.by _ (inl refl) _ (R.part (R.by _ (inl refl) _ (R.part (R.by _ (inr (inr (inr (inr (inl refl))))) _ (R.part (R.by _ (inl refl) _ (tok n T.Integer refl refl R.nothing)) (R.part (R.by _ (inl refl) _ R.nothing) R.nothing))) (R.part (R.by _ (inl refl) _ R.nothing) R.nothing))) (R.part (R.by _ (inl refl) _ R.nothing) R.nothing))) (R.part (R.by _ (inl refl) _ R.nothing) R.nothing))) (R.part (R.by _ (inl refl) _ R.nothing) R.nothing))) (R.part (R.by _ (inl refl) _ R.nothing) R.nothing))) (R.part (R.by _ (inl refl) _ R.nothing) R.nothing))) (R.part (R.by _ (inl refl) _ R.nothing) R.nothing))) (R.part (R.by _ (inl refl) _ R.nothing) R.nothing))) (R.part (R.by _ (inl refl) _ R.nothing) R.nothing))) (R.part (R.by _ (inl refl) _ R.nothing) R.nothing))) (R.part (R.by _ (inl refl) _ R.nothing) R.nothing))) (R.part (R.by _ (inl refl) _ (tok c T.CloseBracket refl refl R.nothing)) R.nothing))) R.nothing))) (R.part (R.by _ (inl refl) _ R.nothing) R.nothing))) R.nothing)) (positive_is _ _ n.lexeme.span size suffix n.lexeme.content n.content (ne_eqb n.lexeme.span.lo o.lexeme.span.lo (λ e. omega (arith, e, q.less)))) c.left;
     }
-minus_by true (s.number w true size suffix) h r at more ls laid = no_true false refl h
+minus_by true (s.number w true size end) h r at more ls laid = no_true false refl h
 minus_by true (s.truth a0 a1) h r at more ls laid = no_true false refl h
 minus_by true (s.tuple a0 a1) h r at more ls laid = no_true false refl h
 minus_by true (s.inner a0) h r at more ls laid = no_true false refl h

@@ -1,5 +1,5 @@
 -- Paths in expressions are read of their tokens, with what they are applied to.
-use Rattle.std.proofs.Common.{◌≡◌, ◌⊎◌, refl, sym, ap, ◌∙◌, inl, inr, ℕ, Bool, true, false, List, [], ◌∷◌, codes}
+use Rattle.std.proofs.Common.{◌≡◌, ◌⊎◌, refl, ap, ◌∙◌, inl, inr, ℕ, Bool, true, false, List, ◌∷◌, codes}
 use Rattle.table_reader.specs.Reading as R
 use Rattle.source_grammar.specs.declared.class.Class.{Class}
 use Rattle.source_grammar.specs.declared.class.Class.TheVariants as C
@@ -21,11 +21,11 @@ use Rattle.source_ways.specs.Says.{ident, name_in}
 use Rattle.source_ways.specs.PathNodes.{built_in}
 use Rattle.source_ways.specs.Paths.{called, continued, begun_by, in_std}
 use Rattle.rust_printer.specs.Tok.{Tok, mark, named}
-use Rattle.rust_printer.specs.TypeTokens.{types_tokens, turbo_tokens, path_tokens, std_tokens}
-use Rattle.rust_printer.specs.Bare.{bare_ident, bare_turbo, bare_path, bare_writtens, bare_expr, bare_exprs, bare_inits, nowhere}
+use Rattle.rust_printer.specs.TypeTokens.{turbo_tokens, path_tokens}
+use Rattle.rust_printer.specs.Bare.{bare_ident, bare_turbo, bare_path, bare_writtens, bare_expr, bare_exprs, nowhere}
 use Rattle.rust_printer.specs.Laid.{Laid}
 use Rattle.rust_printer.proofs.Printable.{IsName, IsTurbo, IsPath, IsNoBuiltIn}
-use Rattle.rust_printer.proofs.ReadCommon.{Read, read_by, Off, off, tok, tok_end}
+use Rattle.rust_printer.proofs.ReadCommon.{Read, read_by, Off, off, tok}
 use Rattle.rust_printer.proofs.ReadTypes.{at_nowhere, in_angles_read}
 use Rattle.rust_printer.proofs.Starts.{Start, plain_start, mem_start, std_start, panic_start, assert_start, start, mem_or_not}
 
@@ -146,14 +146,14 @@ later next ok target ts us more ls a b z =
     (λ whole name tys. x.is whole (t.two name tys (ident b.lexeme)) ∙ ap (λ c. target (t.two (bare_ident name) (bare_turbo tys) (at_nowhere (name_in c)))) b.content) x.left
 
 -- the built-in `replace`, by its class
-replace_is : {v : Calling} (target : t.Path → s.Expr) (whole path mem : Span) {class : Class} (after_std : Bool) → class ≡ class_named (codes "replace") C.Other → IsCalled target v →
+replace_is : (v : Calling) (target : t.Path → s.Expr) (whole path mem : Span) (class : Class) (after_std : Bool) → class ≡ class_named (codes "replace") C.Other → IsCalled target v →
     bare_expr (called whole (built_in class path mem after_std) v) ≡ target (t.mem_replace nowhere nowhere after_std)
-replace_is {v} target whole path mem {class} after_std e is = is whole (built_in class path mem after_std) ∙ ap (λ c. target (bare_path (built_in c path mem after_std))) e
+replace_is v target whole path mem class after_std e is = is whole (built_in class path mem after_std) ∙ ap (λ c. target (bare_path (built_in c path mem after_std))) e
 
 -- the built-in `swap`, by its class
-swap_is : {v : Calling} (target : t.Path → s.Expr) (whole path mem : Span) {class : Class} (after_std : Bool) → class ≡ class_named (codes "swap") C.Other → IsCalled target v →
+swap_is : (v : Calling) (target : t.Path → s.Expr) (whole path mem : Span) (class : Class) (after_std : Bool) → class ≡ class_named (codes "swap") C.Other → IsCalled target v →
     bare_expr (called whole (built_in class path mem after_std) v) ≡ target (t.mem_swap nowhere nowhere after_std)
-swap_is {v} target whole path mem {class} after_std e is = is whole (built_in class path mem after_std) ∙ ap (λ c. target (bare_path (built_in c path mem after_std))) e
+swap_is v target whole path mem class after_std e is = is whole (built_in class path mem after_std) ∙ ap (λ c. target (bare_path (built_in c path mem after_std))) e
 
 -- a path of two names or of a built-in function, with what stands after it
 pub path_called : (path : t.Path) → IsPath path → (target : t.Path → s.Expr) (at : ℕ) (ts more : List Tok) (ls : List Lexeme) → Laid at (path_tokens path ts) ls →
@@ -185,7 +185,7 @@ path_called (t.mem_replace span mem false) ok target at ts more ls laid rest one
     let b = off a.left in
     let c = off b.left in
     let x = (rest c.at c.rest c.left).after_path in
-    read_by _ (inr (inr (inr (inr (inl refl))))) _ x.rest (tok a T.Mem refl refl (R.part (R.by _ (inr (inr (inl refl))) _ (tok b T.Colons refl refl (R.part (R.by _ (inr (inl refl)) _ (tok c T.SwapName refl refl (R.part x.reads R.nothing))) R.nothing))) R.nothing)) (replace_is target _ _ _ _ c.class x.is) x.left
+    read_by _ (inr (inr (inr (inr (inl refl))))) _ x.rest (tok a T.Mem refl refl (R.part (R.by _ (inr (inr (inl refl))) _ (tok b T.Colons refl refl (R.part (R.by _ (inr (inl refl)) _ (tok c T.SwapName refl refl (R.part x.reads R.nothing))) R.nothing))) R.nothing)) (replace_is _ target _ _ _ _ _ c.class x.is) x.left
 path_called (t.mem_replace span mem true) ok target at ts more ls laid rest one =
     let a = off laid in
     let b = off a.left in
@@ -193,13 +193,13 @@ path_called (t.mem_replace span mem true) ok target at ts more ls laid rest one 
     let d = off c.left in
     let e = off d.left in
     let x = (rest e.at e.rest e.left).after_path in
-    read_by _ (inr (inr (inr (inr (inr (inl refl)))))) _ x.rest (tok a T.Std refl refl (R.part (R.by _ (inr (inr (inl refl))) _ (tok b T.Colons refl refl (R.part (R.by _ (inr (inl refl)) _ (tok c T.Mem refl refl (R.part (R.by _ (inr (inr (inl refl))) _ (tok d T.Colons refl refl (R.part (R.by _ (inr (inl refl)) _ (tok e T.SwapName refl refl (R.part x.reads R.nothing))) R.nothing))) R.nothing))) R.nothing))) R.nothing)) (replace_is target _ _ _ _ e.class x.is) x.left
+    read_by _ (inr (inr (inr (inr (inr (inl refl)))))) _ x.rest (tok a T.Std refl refl (R.part (R.by _ (inr (inr (inl refl))) _ (tok b T.Colons refl refl (R.part (R.by _ (inr (inl refl)) _ (tok c T.Mem refl refl (R.part (R.by _ (inr (inr (inl refl))) _ (tok d T.Colons refl refl (R.part (R.by _ (inr (inl refl)) _ (tok e T.SwapName refl refl (R.part x.reads R.nothing))) R.nothing))) R.nothing))) R.nothing))) R.nothing)) (replace_is _ target _ _ _ _ _ e.class x.is) x.left
 path_called (t.mem_swap span mem false) ok target at ts more ls laid rest one =
     let a = off laid in
     let b = off a.left in
     let c = off b.left in
     let x = (rest c.at c.rest c.left).after_path in
-    read_by _ (inr (inr (inr (inr (inl refl))))) _ x.rest (tok a T.Mem refl refl (R.part (R.by _ (inr (inr (inl refl))) _ (tok b T.Colons refl refl (R.part (R.by _ (inr (inl refl)) _ (tok c T.SwapName refl refl (R.part x.reads R.nothing))) R.nothing))) R.nothing)) (swap_is target _ _ _ _ c.class x.is) x.left
+    read_by _ (inr (inr (inr (inr (inl refl))))) _ x.rest (tok a T.Mem refl refl (R.part (R.by _ (inr (inr (inl refl))) _ (tok b T.Colons refl refl (R.part (R.by _ (inr (inl refl)) _ (tok c T.SwapName refl refl (R.part x.reads R.nothing))) R.nothing))) R.nothing)) (swap_is _ target _ _ _ _ _ c.class x.is) x.left
 path_called (t.mem_swap span mem true) ok target at ts more ls laid rest one =
     let a = off laid in
     let b = off a.left in
@@ -207,7 +207,7 @@ path_called (t.mem_swap span mem true) ok target at ts more ls laid rest one =
     let d = off c.left in
     let e = off d.left in
     let x = (rest e.at e.rest e.left).after_path in
-    read_by _ (inr (inr (inr (inr (inr (inl refl)))))) _ x.rest (tok a T.Std refl refl (R.part (R.by _ (inr (inr (inl refl))) _ (tok b T.Colons refl refl (R.part (R.by _ (inr (inl refl)) _ (tok c T.Mem refl refl (R.part (R.by _ (inr (inr (inl refl))) _ (tok d T.Colons refl refl (R.part (R.by _ (inr (inl refl)) _ (tok e T.SwapName refl refl (R.part x.reads R.nothing))) R.nothing))) R.nothing))) R.nothing))) R.nothing)) (swap_is target _ _ _ _ e.class x.is) x.left
+    read_by _ (inr (inr (inr (inr (inr (inl refl)))))) _ x.rest (tok a T.Std refl refl (R.part (R.by _ (inr (inr (inl refl))) _ (tok b T.Colons refl refl (R.part (R.by _ (inr (inl refl)) _ (tok c T.Mem refl refl (R.part (R.by _ (inr (inr (inl refl))) _ (tok d T.Colons refl refl (R.part (R.by _ (inr (inl refl)) _ (tok e T.SwapName refl refl (R.part x.reads R.nothing))) R.nothing))) R.nothing))) R.nothing))) R.nothing)) (swap_is _ target _ _ _ _ _ e.class x.is) x.left
 
 -- a name with perhaps types, and what it is applied to
 pub one_called : (name : List ℕ) → IsName name → (tys : t.Turbo) → IsTurbo tys → (target : Ident → t.Turbo → s.Expr) (ts more : List Tok) (ls : List Lexeme) → (o : Off (named name) (turbo_tokens tys ts) ls) →

@@ -1,5 +1,5 @@
 -- Patterns are read of their tokens.
-use Rattle.std.proofs.Common.{◌≡◌, ◌⊎◌, refl, sym, ap, ◌∙◌, inl, inr, ℕ, Bool, true, false, List, [], ◌∷◌, Option, Some, None, codes}
+use Rattle.std.proofs.Common.{◌≡◌, ◌⊎◌, refl, ap, ◌∙◌, inl, inr, ℕ, Bool, true, false, List, ◌∷◌, codes}
 use Rattle.table_reader.specs.Reading as R
 use Rattle.source_grammar.specs.declared.class.Class.{Class}
 use Rattle.source_grammar.specs.declared.class.Class.TheVariants as C
@@ -12,7 +12,6 @@ use Rattle.source_grammar.specs.declared.part.Listed.TheVariants as Of
 use Rattle.source_grammar.specs.Lexemes.{has_class}
 use Rattle.source_grammar.specs.Spelled.{class_named}
 use Rattle.aen_base.specs.declared.span.Span.{Span}
-use Rattle.rust_ast.specs.declared.ident.Ident.{Ident}
 use Rattle.rust_ast.specs.SourceTypes as t
 use Rattle.rust_ast.specs.SourcePatterns as p
 use Rattle.rust_ast.specs.Patterns as suffixes
@@ -21,13 +20,12 @@ use Rattle.source_ways.specs.Says.{ident, name_in, number_in, is_class}
 use Rattle.source_ways.specs.PathNodes.{built_in}
 use Rattle.source_ways.specs.Patterns.{with_parts}
 use Rattle.rust_printer.specs.Tok.{Tok, mark, named}
-use Rattle.rust_printer.specs.WordTokens.{truth_tokens, number_tokens}
 use Rattle.rust_printer.specs.TypeTokens.{path_tokens}
 use Rattle.rust_printer.specs.PatternTokens.{pattern_tokens, field_pattern_tokens, patterns_tokens, field_patterns_tokens}
-use Rattle.rust_printer.specs.Bare.{bare_ident, bare_path, bare_writtens, bare_pat, bare_fieldpat, bare_pats, bare_fieldpats, nowhere}
+use Rattle.rust_printer.specs.Bare.{bare_path, bare_writtens, bare_pat, bare_fieldpat, bare_pats, bare_fieldpats, nowhere}
 use Rattle.rust_printer.specs.Laid.{Laid}
 use Rattle.rust_printer.proofs.Printable.{IsName, IsPath, IsNoBuiltIn, IsPattern, IsFieldPattern, ArePatterns, AreFieldPatterns}
-use Rattle.rust_printer.proofs.ReadCommon.{Read, read_by, Off, off, tok, tok_end}
+use Rattle.rust_printer.proofs.ReadCommon.{Read, read_by, Off, off, tok}
 use Rattle.rust_printer.proofs.ReadTypes.{at_nowhere, in_angles_read}
 use Rattle.rust_printer.proofs.Starts.{PatternStart, plain_pattern, mem_pattern, std_pattern, pattern_start, mem_or_not}
 
@@ -75,13 +73,13 @@ typed_read name (plain_pattern h) next ok target tys ts us vs ws xs ys more ls o
 typed_read name (mem_pattern h) next ok target tys ts us vs ws xs ys more ls o a b y c d x = read_by _ (inr (inr (inr (inr (inr (inr (inr (inl refl)))))))) _ x.rest (tok o T.Mem (ap (has_class T.Mem) h) refl (R.part (R.by _ (inr (inr (inl refl))) _ (tok a T.Colons refl refl (R.part (R.by _ (inl refl) _ (tok b T.Less refl refl (R.part y.reads (tok c T.Colons refl refl (tok d T.Identifier ok refl (R.part (R.by _ (inr (inl refl)) _ (R.part x.reads R.nothing)) R.nothing)))))) R.nothing))) R.nothing)) (x.is _ (t.two (ident o.lexeme) (t.turbo (t.writtens y.value.value)) (ident d.lexeme)) ∙ (λ i. target (t.two (at_nowhere (name_in (o.content i))) (t.turbo (y.is i)) (at_nowhere (name_in (d.content i)))))) x.left
 typed_read name (std_pattern h) next ok target tys ts us vs ws xs ys more ls o a b y c d x = read_by _ (inr (inr (inr (inr (inr (inr (inr (inr (inl refl))))))))) _ x.rest (tok o T.Std (ap (has_class T.Std) h) refl (R.part (R.by _ (inr (inr (inl refl))) _ (tok a T.Colons refl refl (R.part (R.by _ (inl refl) _ (tok b T.Less refl refl (R.part y.reads (tok c T.Colons refl refl (tok d T.Identifier ok refl (R.part (R.by _ (inr (inl refl)) _ (R.part x.reads R.nothing)) R.nothing)))))) R.nothing))) R.nothing)) (x.is _ (t.two (ident o.lexeme) (t.turbo (t.writtens y.value.value)) (ident d.lexeme)) ∙ (λ i. target (t.two (at_nowhere (name_in (o.content i))) (t.turbo (y.is i)) (at_nowhere (name_in (d.content i)))))) x.left
 
-replace_is : {v : Given} (target : t.Path → p.Pat) (whole path mem : Span) {class : Class} (after_std : Bool) → class ≡ class_named (codes "replace") C.Other → IsGiven target v →
+replace_is : (v : Given) (target : t.Path → p.Pat) (whole path mem : Span) (class : Class) (after_std : Bool) → class ≡ class_named (codes "replace") C.Other → IsGiven target v →
     bare_pat (with_parts whole (built_in class path mem after_std) v) ≡ target (t.mem_replace nowhere nowhere after_std)
-replace_is {v} target whole path mem {class} after_std e is = is whole (built_in class path mem after_std) ∙ ap (λ c. target (bare_path (built_in c path mem after_std))) e
+replace_is v target whole path mem class after_std e is = is whole (built_in class path mem after_std) ∙ ap (λ c. target (bare_path (built_in c path mem after_std))) e
 
-swap_is : {v : Given} (target : t.Path → p.Pat) (whole path mem : Span) {class : Class} (after_std : Bool) → class ≡ class_named (codes "swap") C.Other → IsGiven target v →
+swap_is : (v : Given) (target : t.Path → p.Pat) (whole path mem : Span) (class : Class) (after_std : Bool) → class ≡ class_named (codes "swap") C.Other → IsGiven target v →
     bare_pat (with_parts whole (built_in class path mem after_std) v) ≡ target (t.mem_swap nowhere nowhere after_std)
-swap_is {v} target whole path mem {class} after_std e is = is whole (built_in class path mem after_std) ∙ ap (λ c. target (bare_path (built_in c path mem after_std))) e
+swap_is v target whole path mem class after_std e is = is whole (built_in class path mem after_std) ∙ ap (λ c. target (bare_path (built_in c path mem after_std))) e
 
 -- a path with parts
 with_path : (path : t.Path) → IsPath path → (target : t.Path → p.Pat) (at : ℕ) (ts more : List Tok) (ls : List Lexeme) → Laid at (path_tokens path ts) ls →
@@ -112,7 +110,7 @@ with_path (t.mem_replace span mem false) ok target at ts more ls laid rest =
     let b = off a.left in
     let c = off b.left in
     let x = rest c.at c.rest c.left in
-    read_by _ (inr (inr (inr (inr (inr (inr (inr (inl refl)))))))) _ x.rest (tok a T.Mem refl refl (R.part (R.by _ (inr (inr (inl refl))) _ (tok b T.Colons refl refl (R.part (R.by _ (inr (inl refl)) _ (tok c T.SwapName refl refl (R.part (R.by _ (inr (inl refl)) _ (R.part x.reads R.nothing)) R.nothing))) R.nothing))) R.nothing)) (replace_is target _ _ _ false c.class x.is) x.left
+    read_by _ (inr (inr (inr (inr (inr (inr (inr (inl refl)))))))) _ x.rest (tok a T.Mem refl refl (R.part (R.by _ (inr (inr (inl refl))) _ (tok b T.Colons refl refl (R.part (R.by _ (inr (inl refl)) _ (tok c T.SwapName refl refl (R.part (R.by _ (inr (inl refl)) _ (R.part x.reads R.nothing)) R.nothing))) R.nothing))) R.nothing)) (replace_is _ target _ _ _ _ false c.class x.is) x.left
 with_path (t.mem_replace span mem true) ok target at ts more ls laid rest =
     let a = off laid in
     let b = off a.left in
@@ -120,13 +118,13 @@ with_path (t.mem_replace span mem true) ok target at ts more ls laid rest =
     let d = off c.left in
     let e = off d.left in
     let x = rest e.at e.rest e.left in
-    read_by _ (inr (inr (inr (inr (inr (inr (inr (inr (inl refl))))))))) _ x.rest (tok a T.Std refl refl (R.part (R.by _ (inr (inr (inl refl))) _ (tok b T.Colons refl refl (R.part (R.by _ (inr (inl refl)) _ (tok c T.Mem refl refl (R.part (R.by _ (inr (inr (inl refl))) _ (tok d T.Colons refl refl (tok e T.SwapName refl refl (R.part (R.by _ (inr (inl refl)) _ (R.part x.reads R.nothing)) R.nothing)))) R.nothing))) R.nothing))) R.nothing)) (replace_is target _ _ _ true e.class x.is) x.left
+    read_by _ (inr (inr (inr (inr (inr (inr (inr (inr (inl refl))))))))) _ x.rest (tok a T.Std refl refl (R.part (R.by _ (inr (inr (inl refl))) _ (tok b T.Colons refl refl (R.part (R.by _ (inr (inl refl)) _ (tok c T.Mem refl refl (R.part (R.by _ (inr (inr (inl refl))) _ (tok d T.Colons refl refl (tok e T.SwapName refl refl (R.part (R.by _ (inr (inl refl)) _ (R.part x.reads R.nothing)) R.nothing)))) R.nothing))) R.nothing))) R.nothing)) (replace_is _ target _ _ _ _ true e.class x.is) x.left
 with_path (t.mem_swap span mem false) ok target at ts more ls laid rest =
     let a = off laid in
     let b = off a.left in
     let c = off b.left in
     let x = rest c.at c.rest c.left in
-    read_by _ (inr (inr (inr (inr (inr (inr (inr (inl refl)))))))) _ x.rest (tok a T.Mem refl refl (R.part (R.by _ (inr (inr (inl refl))) _ (tok b T.Colons refl refl (R.part (R.by _ (inr (inl refl)) _ (tok c T.SwapName refl refl (R.part (R.by _ (inr (inl refl)) _ (R.part x.reads R.nothing)) R.nothing))) R.nothing))) R.nothing)) (swap_is target _ _ _ false c.class x.is) x.left
+    read_by _ (inr (inr (inr (inr (inr (inr (inr (inl refl)))))))) _ x.rest (tok a T.Mem refl refl (R.part (R.by _ (inr (inr (inl refl))) _ (tok b T.Colons refl refl (R.part (R.by _ (inr (inl refl)) _ (tok c T.SwapName refl refl (R.part (R.by _ (inr (inl refl)) _ (R.part x.reads R.nothing)) R.nothing))) R.nothing))) R.nothing)) (swap_is _ target _ _ _ _ false c.class x.is) x.left
 with_path (t.mem_swap span mem true) ok target at ts more ls laid rest =
     let a = off laid in
     let b = off a.left in
@@ -134,7 +132,7 @@ with_path (t.mem_swap span mem true) ok target at ts more ls laid rest =
     let d = off c.left in
     let e = off d.left in
     let x = rest e.at e.rest e.left in
-    read_by _ (inr (inr (inr (inr (inr (inr (inr (inr (inl refl))))))))) _ x.rest (tok a T.Std refl refl (R.part (R.by _ (inr (inr (inl refl))) _ (tok b T.Colons refl refl (R.part (R.by _ (inr (inl refl)) _ (tok c T.Mem refl refl (R.part (R.by _ (inr (inr (inl refl))) _ (tok d T.Colons refl refl (tok e T.SwapName refl refl (R.part (R.by _ (inr (inl refl)) _ (R.part x.reads R.nothing)) R.nothing)))) R.nothing))) R.nothing))) R.nothing)) (swap_is target _ _ _ true e.class x.is) x.left
+    read_by _ (inr (inr (inr (inr (inr (inr (inr (inr (inl refl))))))))) _ x.rest (tok a T.Std refl refl (R.part (R.by _ (inr (inr (inl refl))) _ (tok b T.Colons refl refl (R.part (R.by _ (inr (inl refl)) _ (tok c T.Mem refl refl (R.part (R.by _ (inr (inr (inl refl))) _ (tok d T.Colons refl refl (tok e T.SwapName refl refl (R.part (R.by _ (inr (inl refl)) _ (R.part x.reads R.nothing)) R.nothing)))) R.nothing))) R.nothing))) R.nothing)) (swap_is _ target _ _ _ _ true e.class x.is) x.left
 
 -- an integer, by what its lexeme says
 number_is : (negative : Bool) (size : ℕ) (suffix : suffixes.Suffix) (content : Content) → content ≡ says.Number size (suffixes.suffix_option suffix) →

@@ -1,5 +1,5 @@
 -- Types are read of their tokens.
-use Rattle.std.proofs.Common.{◌≡◌, refl, sym, ap, ◌∙◌, inl, inr, ℕ, Bool, true, false, List, [], ◌∷◌, if◌then◌else◌, drop}
+use Rattle.std.proofs.Common.{◌≡◌, refl, ap, ◌∙◌, inl, inr, ℕ, Bool, true, false, List, ◌∷◌, if◌then◌else◌}
 use Rattle.table_reader.specs.Reading as R
 use Rattle.source_grammar.specs.declared.class.Class.{Class}
 use Rattle.source_grammar.specs.declared.class.Class.TheVariants as C
@@ -16,7 +16,7 @@ use Rattle.rust_printer.specs.WordTokens.{mut_tokens}
 use Rattle.rust_printer.specs.TypeTokens.{lifetime_tokens, type_tokens, arguments_tokens, types_tokens}
 use Rattle.rust_printer.specs.Bare.{bare_lifetime, bare_written, bare_writtens, nowhere}
 use Rattle.rust_printer.specs.Laid.{Laid}
-use Rattle.rust_printer.proofs.Printable.{IsName, IsType, AreTypes, AreTwoTypes}
+use Rattle.rust_printer.proofs.Printable.{IsType, AreTypes}
 use Rattle.rust_printer.proofs.ReadCommon.{Read, read_by, off, tok, tok_end}
 
 -- a name that stands nowhere

@@ -1,5 +1,5 @@
 -- The classes of identifiers, by how a path that begins with one is read.
-use Rattle.std.proofs.Common.{◌≡◌, ◌⊎◌, refl, ap, inl, inr, Bool, true}
+use Rattle.std.proofs.Common.{◌≡◌, ◌⊎◌, ap, inl, inr, true}
 use Rattle.table_reader.specs.Derivations.{IsOneOf}
 use Rattle.source_grammar.specs.declared.class.Class.{Class}
 use Rattle.source_grammar.specs.declared.class.Class.TheVariants as C

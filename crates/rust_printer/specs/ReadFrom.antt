@@ -1,5 +1,5 @@
 -- Programs that are read from lexemes as texts have them (LANGUAGE.md, "Tokens", "Grammar").
-use Rattle.std.specs.Prelude.{◌≡◌, Bool, true, List, [], ◌∷◌}
+use Rattle.std.specs.Prelude.{◌≡◌, true, List, [], ◌∷◌}
 use Rattle.rust_ast.specs.declared.program.Program.{Program}
 use Rattle.source_grammar.specs.declared.class.Class.TheVariants as C
 use Rattle.source_grammar.specs.declared.lexeme.Lexeme.{Lexeme}
