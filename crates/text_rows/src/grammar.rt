@@ -3,8 +3,8 @@
 ghost use Rattle.std.specs.Prelude.{◌<◌, ◌^◌, length};
 
 use aen_base::NoMem;
-use std::alloc::Global;
 use raw_reader::read_text;
+use std::alloc::Global;
 use text_syntax::lexemes_of;
 use text_tokens::lex;
 
