@@ -22,8 +22,9 @@ sys.path.insert(0, HERE)
 import source_ways  # noqa: E402
 from grammar import Description, arguments  # noqa: E402
 
-VALUES, BUILDER = (os.path.join(HERE, "..", "crates", c) for c in ("source_values", "source_builder"))
-WAYS = os.path.join(HERE, "..", "crates", "source_ways")
+CRATES = os.path.join(HERE, "..", "crates")
+VALUES, BUILDER = "source_values", "source_builder"
+WAYS = os.path.join(CRATES, "source_ways")
 TOKEN = "Token"
 ORDINALS = "second third fourth fifth sixth".split()
 
@@ -100,6 +101,12 @@ class Way:
 
 
 class Machine:
+    """What is known of a grammar's parts and ways. Another grammar's machine (text_ways.py) says where it differs."""
+
+    MADE_IN = VALUES
+    SEEN = {"taking": "pub(crate) ", "made": "pub "}
+    HELD = (("Items", "The items of a program"), ("Writtens", "The types of a list"))
+
     def __init__(self):
         given = load("source_build.desc.py")
         described = load("source_ways.desc.py")
@@ -163,7 +170,7 @@ class Machine:
         for (_, name, values), productions in order:
             for place, (symbols, text) in enumerate(zip(productions, self.ways_of(name, values))):
                 kinds = [self.variant(s) for s in symbols]
-                way = Way(self, text, kinds, values)
+                way = self.way(text, kinds, values)
                 result = self.variant(("part", name, values))
                 code = way.code
                 for i, n in enumerate(way.names):
@@ -174,7 +181,32 @@ class Machine:
                     self.made[key] = (at, name, values, place, symbols, way, kinds, result)
                 self.function_of[name, values, place] = self.made[key]
 
+    def way(self, text, kinds, values):
+        return Way(self, text, kinds, values)
+
     # ---- code
+
+    def write(self, crate, path, text):
+        path = os.path.join(CRATES, crate, path)
+        os.makedirs(os.path.dirname(path), exist_ok=True)
+        open(path, "w", encoding="utf-8").write(text)
+
+    def holds(self, code):
+        """A value in code, as its variant has it."""
+        return f"Spanned<{code}>"
+
+    def body(self, way, kinds, result):
+        """The statements before a value is there that a production builds, and that value."""
+        takes, extent = [], "None"
+        for n, k in reversed(list(zip(way.names, kinds))):
+            used = k != TOKEN or re.search(rf"(?<![\w.:]){n}(?![\w(:])", way.code)
+            takes.append(f"    let {n} = take_{snake(k) if used else 'mark'}(values);")
+            where = f"{n}.extent" if k != TOKEN else f"Some({n}.span)" if used else f"Some({n})"
+            extent = f"join({where}, {extent})"
+        body = takes + [f"    let extent = {extent};"] if kinds else ["    let extent = None;"]
+        if way.code in way.names or way.code.endswith(".value"):
+            return body, f"Value::{result}(Spanned {{ value: {way.code}, extent }})"
+        return body + [f"    let value = {way.code};"], f"Value::{result}(Spanned {{ value, extent }})"
 
     def uses(self, text, more=()):
         lines = list(more)
@@ -213,18 +245,7 @@ def production(machine, name, values, place):
 def made_function(machine, entry):
     at, name, values, place, symbols, way, kinds, result = entry
     part = machine.part(name, values)
-    takes, extent = [], "None"
-    for n, k in reversed(list(zip(way.names, kinds))):
-        used = k != TOKEN or re.search(rf"(?<![\w.:]){n}(?![\w(:])", way.code)
-        takes.append(f"    let {n} = take_{snake(k) if used else 'mark'}(values);")
-        where = f"{n}.extent" if k != TOKEN else f"Some({n}.span)" if used else f"Some({n})"
-        extent = f"join({where}, {extent})"
-    body = takes + [f"    let extent = {extent};"] if kinds else ["    let extent = None;"]
-    if way.code in way.names or way.code.endswith(".value"):
-        value = f"Value::{result}(Spanned {{ value: {way.code}, extent }})"
-    else:
-        body.append(f"    let value = {way.code};")
-        value = f"Value::{result}(Spanned {{ value, extent }})"
+    body, value = machine.body(way, kinds, result)
     body.append(f"    Ok({value})" if way.fallible else f"    {value}")
     alloc = "alloc: Global, " if re.search(r"\balloc\b", way.code) else ""
     built = f"IsBuilt {part} {place} (reverse values.old)"
@@ -235,7 +256,7 @@ def made_function(machine, entry):
     else:
         sign, ensures = "Value", f"{built} result (reverse values.new)"
     return "\n".join([
-        doc, f"pub fn {at}({alloc}values: &mut Stack) -> {sign}",
+        doc, f"{machine.SEEN['made']}fn {at}({alloc}values: &mut Stack) -> {sign}",
         f"    requires {{ CanBuild {part} {place} (reverse values.old) }}",
         f"    ensures {{ {ensures} }}", "{"] + body + ["}"]) + "\n"
 
@@ -251,16 +272,11 @@ def made_files(machine):
     return files
 
 
-def write(path, text):
-    os.makedirs(os.path.dirname(path), exist_ok=True)
-    open(path, "w", encoding="utf-8").write(text)
-
-
 def write_value(machine):
-    lines = [f"    {name}(Spanned<{code}>)," for name, _, code in machine.variants]
+    lines = [f"    {name}({machine.holds(code)})," for name, _, code in machine.variants]
     text = ("/// The value of a part, with its extent: a variant for each type that parts carry.\n#[derive(Drop)]\npub enum Value {\n"
             + "\n".join(lines) + "\n}\n\n/// The values of symbols, the newest last.\npub type Stack = List<table_reader::Item<Lexeme, Value>>;\n")
-    write(os.path.join(VALUES, "src", "value.rt"), "//! What is held of each part. Written by tools/source_build.py.\n\n"
+    machine.write(VALUES, "src/value.rt", "//! What is held of each part. Written by tools/source_build.py.\n\n"
           + machine.uses(text, ["use aen_base::List;"]) + "\n" + text)
 
 
@@ -344,27 +360,27 @@ def only(name, taken):
 
 def write_taking(machine):
     text = TAKERS
-    for name, doc in (("Items", "The items of a program"), ("Writtens", "The types of a list")):
+    for name, doc in machine.HELD:
         text += f'''
 /// {doc} that a value holds.
-pub fn held_{snake(name)}(value: Value) -> Spanned<{machine.code_of[name]}>
+pub fn held_{snake(name)}(value: Value) -> {machine.holds(machine.code_of[name])}
     requires {{ Is V.{name} value }}
     ensures {{ value ≡ V.{name} result }}
 ''' + only(name, "value")
-    subjects = "".join(f"pub(crate) mod {s};\n" for s in sorted(machine.taking))
+    subjects = "".join(f"{machine.SEEN['taking']}mod {s};\n" for s in sorted(machine.taking))
     head, uses = TAKING.split("\n\n", 1)
-    write(os.path.join(VALUES, "src", "taking.rt"), head + "\n\n" + subjects + "\n" + uses
+    machine.write(VALUES, "src/taking.rt", head + "\n\n" + subjects + "\n" + uses
           + machine.uses(text, ["use crate::value::{Stack, Value};"]) + text)
     for subject, variants in machine.taking.items():
         text = ""
         for name, _, code in variants:
             text += f'''
 /// Takes the value of a part off that is held as `{name}`.
-pub(crate) fn take_{snake(name)}(values: &mut Stack) -> Spanned<{code}>
+{machine.SEEN["taking"]}fn take_{snake(name)}(values: &mut Stack) -> {machine.holds(code)}
     requires {{ Has V.{name} (reverse values.old) }}
     ensures {{ reverse values.old ≡ I.Part (V.{name} result) ∷ reverse values.new }}
 ''' + only(name, "take_part(values)")
-        write(os.path.join(VALUES, "src", "taking", subject + ".rt"),
+        machine.write(VALUES, f"src/taking/{subject}.rt",
               f"//! Values of parts of {subject}, taken off the stack. Written by tools/source_build.py.\n\n" + TAKING_PARTS
               + machine.uses(text, ["use crate::taking::{discard, take_part};", "use crate::value::{Stack, Value};"]) + text)
 
@@ -394,7 +410,7 @@ def write_held(machine):
         carried = machine.carried[name]
         held = "held_list x v" if carried == "List (Listing x)" else f"V.{machine.variant_of[carried]} v"
         text += f"held {pattern} v = {held}\n"
-    write(os.path.join(VALUES, "specs", "Held.antt"), text)
+    machine.write(VALUES, "specs/Held.antt", text)
 
 
 MADE = '''ghost use Rattle.std.specs.Prelude.{◌≡◌, reverse, IfOk};
@@ -408,7 +424,7 @@ def write_made(machine):
     for section, entries in files.items():
         text = "\n".join(made_function(machine, e) for e in entries)
         more = ["use crate::value::{Stack, Value};"]
-        takes = sorted(set(re.findall(r"\btake_\w+", text)))
+        takes = sorted(set(re.findall(r"\b(?:take|drop)_\w+", text)))
         for place in sorted(set(machine.taken_in(t) for t in takes)):
             more.append(f"use crate::taking{place}::{{{', '.join(t for t in takes if machine.taken_in(t) == place)}}};")
         for module in sorted(set(machine.modules.values())):
@@ -418,9 +434,9 @@ def write_made(machine):
         for kind, (short, _, _) in ((k, v) for k, v in machine.grammar.parameters.items()):
             if re.search(rf"(?<![\w.]){short}\.", "\n".join(l for l in text.split("\n") if "IsBuilt" in l or "CanBuild" in l)):
                 head += f"ghost use Rattle.source_grammar.specs.declared.part.{kind}.TheVariants as {short};\n"
-        write(os.path.join(VALUES, "src", "made", section + ".rt"), head + "\n" + machine.uses(text, more) + "\n" + text)
-    write(os.path.join(VALUES, "src", "made.rt"), "//! What productions build. Written by tools/source_build.py.\n\n"
-          + "".join(f"pub mod {s};\n" for s in sorted(files)))
+        machine.write(machine.MADE_IN, f"src/made/{section}.rt", head + "\n" + machine.uses(text, more) + "\n" + text)
+    machine.write(machine.MADE_IN, "src/made.rt", "//! What productions build. Written by tools/source_build.py.\n\n"
+          + "".join(f"{machine.SEEN['made']}mod {s};\n" for s in sorted(files)))
 
 
 # ---- which function builds a part by its production
@@ -562,7 +578,7 @@ def write_building(machine):
         for kind, (short, _, _) in machine.grammar.parameters.items():
             if re.search(rf"(?<![\w.]){short}\.", contracts):
                 head += f"ghost use Rattle.source_grammar.specs.declared.part.{kind}.TheVariants as {short};\n"
-        write(os.path.join(BUILDER, "src", "building", section + ".rt"), head + "\n" + machine.uses(text, more) + "\n" + text)
+        machine.write(BUILDER, f"src/building/{section}.rt", head + "\n" + machine.uses(text, more) + "\n" + text)
         for f in functions:
             of[f.name] = section
             write_answers(machine, f"building.{section}", f)
@@ -636,7 +652,7 @@ def write_answers(machine, module, function):
     kinds = [k for k in ("Context", "Level", "Listed") if re.search(rf"\(x : {k}\)", text)]
     head = uses_of(text, module, None, function.name)
     head = "".join(f"use Rattle.source_grammar.specs.declared.part.{k}.{{{k}}}\n" for k in kinds) + head
-    write(os.path.join(BUILDER, "proofs", *module.split("."), function.name, "Answers.antt"),
+    machine.write(BUILDER, f"proofs/{module.replace('.', '/')}/{function.name}/Answers.antt",
           f"-- What `{function.name}` calls builds the part. Written by tools/source_build.py.\n" + head + text)
 
 
@@ -664,10 +680,10 @@ def write_build(machine, found):
             + "\n".join(arms) + "\n    }\n}\n")
     head = "//! What builds a part by its production. Written by tools/source_build.py.\n\n" + "".join(f"mod {s};\n" for s in sorted(found))
     made = MADE.replace("ghost use Rattle.source_grammar.specs.declared.part.Part.TheVariants as N;\n", "")
-    write(os.path.join(BUILDER, "src", "building.rt"), head + "\n" + made + "\n"
+    machine.write(BUILDER, "src/building.rt", head + "\n" + made + "\n"
           + machine.uses(text, ["use source_values::{Stack, Value};"]) + "\n" + text)
     body = "".join(f"\npub {g} : goal.{g}\n{g} c = {t}\n" for g, t in proofs)
-    write(os.path.join(BUILDER, "proofs", "building", "build_part", "Answers.antt"),
+    machine.write(BUILDER, "proofs/building/build_part/Answers.antt",
           "-- Each part is built by a function of its own. Written by tools/source_build.py.\n"
           + uses_of(body, "building", None, "build_part") + body)
 
@@ -716,7 +732,7 @@ third n a b (suc (suc i)) stack first second h = h.makes
 pub no_third : (l : Level) (m : Context) (i : ℕ) (stack : Stack) → (i ≡ 0 → ⊥) → (i ≡ 1 → ⊥) → CanBuild (N.More l m) i stack → ⊥
 """
     text += "".join(f"no_third L.{l} m i stack first second h = third (N.More L.{l} m) _ _ i stack first second h\n" for l in levels)
-    write(os.path.join(BUILDER, "proofs", "Levels.antt"), text)
+    machine.write(BUILDER, "proofs/Levels.antt", text)
 
 
 def main():

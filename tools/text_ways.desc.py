@@ -1,45 +1,67 @@
 """What each production of the grammar of printed texts is read as: what `text_ways.py` reads."""
 
 GRAMMAR = "text_grammar.desc.py"
-CRATE = "raw_reader"
-VALUES = "raw_values"
 
-# What parts are read as: of each kind the type in code, the type in definitions, and its parts.
-KINDS = """
-Nothing          : Unit {0}                                             = FuelParameter FuelMatch
-Names            : FrontList<Spelling> : List Spelling                  = TypeParameters Names ImplicitParameters PatternParts Variables
-Type             : RawType : RawType                                    = Type OtherType TypeInBrackets
-Types            : FrontList<RawType> : List RawType                    = TypeArguments Factors
-AfterTypeName    : AfterTypeName : AfterTypeName                        = AfterTypeName
-Fields           : FrontList<(Spelling, RawType)> : List (Spelling × RawType) = Fields Parameters
-VariantRest      : VariantRest : VariantRest                            = VariantType
-AfterName        : AfterName : AfterName                                = VariantEnd
-Variants         : FrontList<Variant> : List Variant                    = Variants
-Declaration      : Declaration : Declaration                            = Declaration
-Declarations     : FrontList<Declaration> : List Declaration            = Types
-DefinitionName   : DefinitionName : DefinitionName                      = DefinitionName
-NameEnd          : NameEnd : NameEnd                                    = NameEnd NamePart
-BackEnd          : Option<Spelling> : Option Spelling                   = BackEnd
-Definition       : Definition : Definition                              = Definition
-Definitions      : FrontList<Definition> : List Definition              = Definitions
-Text             : RawText : RawText                                    = Text
-Constructor      : Constructor : Constructor                            = Constructor ExitVariant
-Atom             : RawAtom : RawAtom                                    = Atom PlainAtom AtomInBrackets
-Atoms            : FrontList<RawAtom> : List RawAtom                    = TupleParts Arguments Atoms
-AfterConstructor : AfterConstructor : AfterConstructor                  = AfterConstructor
-Pattern          : Pattern : Pattern                                    = Pattern
-Operation        : Operation : Operation                                = Primitive CastFrom InMemory SwapRegion
-OperationEnd     : Option<Operation> : Option Operation                 = ReplaceEnd SwapEnd
-Computation      : Computation : Computation                            = Computation
-Code             : RawCode : RawCode                                    = Code
-Bound            : Bound : Bound                                        = Bound
-Arms             : FrontList<(Pattern, RawCode)> : List (Pattern × RawCode) = Arms
-"""
+# What parts are read as, by subject: a variant, the type in code, the type in definitions, and the parts.
+KINDS = {
+    "declarations": """
+        Text         = RawText = RawText = Text
+        Declarations = FrontList<Declaration> = List Declaration = Types
+        Declaration  = Declaration = Declaration = Declaration
+        Names        = FrontList<Spelling> = List Spelling = TypeParameters Names ImplicitParameters PatternParts Variables
+        Variants     = FrontList<Variant> = List Variant = Variants
+        VariantRest  = VariantRest = VariantRest = VariantType
+        AfterName    = AfterName = AfterName = VariantEnd
+        Fields       = FrontList<(Spelling, RawType)> = List (Spelling × RawType) = Fields Parameters
+        """,
+    "types": """
+        Type          = RawType = RawType = Type OtherType TypeInBrackets
+        Types         = FrontList<RawType> = List RawType = TypeArguments Factors
+        AfterTypeName = AfterTypeName = AfterTypeName = AfterTypeName
+        """,
+    "definitions": """
+        Definitions    = FrontList<Definition> = List Definition = Definitions
+        Definition     = Definition = Definition = Definition
+        Nothing        = () = Unit {0} = FuelParameter FuelMatch
+        DefinitionName = DefinitionName = DefinitionName = DefinitionName
+        NameEnd        = NameEnd = NameEnd = NameEnd NamePart
+        BackEnd        = Option<Spelling> = Option Spelling = BackEnd
+        """,
+    "code": """
+        Code        = RawCode = RawCode = Code
+        Bound       = Bound = Bound = Bound
+        Arms        = FrontList<(Pattern, RawCode)> = List (Pattern × RawCode) = Arms
+        Pattern     = Pattern = Pattern = Pattern
+        Computation = Computation = Computation = Computation
+        """,
+    "primitives": """
+        Operation    = Operation = Operation = Primitive CastFrom InMemory SwapRegion
+        OperationEnd = Option<Operation> = Option Operation = ReplaceEnd SwapEnd
+        """,
+    "atoms": """
+        Atom             = RawAtom = RawAtom = Atom PlainAtom AtomInBrackets
+        Atoms            = FrontList<RawAtom> = List RawAtom = TupleParts Arguments Atoms
+        Constructor      = Constructor = Constructor = Constructor ExitVariant
+        AfterConstructor = AfterConstructor = AfterConstructor = AfterConstructor
+        """,
+}
 
-# The functions of ways that take memory, and so an allocator.
-ALLOCATES = "ended name_first named_alone after_name let_code exit_type unit_atom lone bracketed"
-# and those that only add to a list
-GROWS = "field_first product_type tuple_pattern tuple_atom"
+# Those that a call gives, and what they are.
+HELD = (("Text", "The text"), ("Type", "The type"), ("Atom", "The atom"))
+
+# Where the types of code come from.
+IMPORTS = {
+    "raw_values::front_list": "FrontList",
+    "raw_values::rests": "AfterConstructor AfterName AfterTypeName Bound NameEnd VariantRest",
+    "crate::ways": "spelled",
+    "aen_base": "NoMem",
+    "raw_ast": "Computation Constructor Declaration Definition DefinitionName Operation Pattern RawAtom RawCode RawText RawType Spelling Variant",
+    "text_table": "Lexeme Part",
+    "std::alloc": "Global",
+}
+
+# The modules of raw_reader/src/ways/ that ways stand in.
+WAYS_IN = "atoms code declarations definitions primitives types"
 
 # A way for each production of a part, in order: names for the values of its symbols (`_` isn't needed), and what is made.
 WAYS = """
@@ -59,7 +81,7 @@ AfterTypeName = ty more. type_arguments (ty ∷ more) | _ ty more. more_factors 
 TypeArguments = _. [] | ty more. ty ∷ more
 Factors = _. [] | _ ty more. ty ∷ more
 Definitions = [] | one more. one ∷ more
-Definition = _ name type_parameters _ parameters _ _ result _ _ code. definition name type_parameters parameters result code
+Definition = _ name type_parameters _ parameters _ _ output _ _ code. definition name type_parameters parameters output code
 FuelParameter = _ _ _ _ _. nothing
 FuelMatch = _ _ _ _ _ _ _ _ _ _ _ _ _. nothing
 DefinitionName = _ _ name end. definition_name name end

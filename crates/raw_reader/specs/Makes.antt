@@ -1,16 +1,13 @@
 -- For each production of the grammar, in order, what is made of the values of its symbols. Written by tools/text_ways.py.
-use Rattle.std.specs.Prelude.{ℕ, List, [], ◌∷◌, reverse, Option}
+use Rattle.std.specs.Prelude.{List, [], ◌∷◌}
 use Rattle.text_table.specs.declared.part.Part.{Part}
 use Rattle.text_table.specs.declared.part.Part.TheVariants as N
-use Rattle.table_reader.specs.declared.item.Item.{Item}
-use Rattle.table_reader.specs.Building.{CanBuild, IsBuilt}
 use Rattle.table_reader.specs.Making.{Makes, made_by}
 use Rattle.table_reader.specs.Reading.{Made}
 use Rattle.text_table.specs.declared.terminal.Terminal.{Terminal}
 use Rattle.text_table.specs.declared.lexeme.Lexeme.{Lexeme}
 use Rattle.text_table.specs.Productions.{productions}
-use Rattle.raw_values.specs.Carriers.{carrier, held}
-use Rattle.raw_values.specs.declared.value.Value.{Value}
+use Rattle.raw_values.specs.Carriers.{carrier}
 use Rattle.raw_reader.specs.Ways as ways
 
 abbrev pub makes : (n : Part) → Makes Terminal Part Lexeme carrier n (productions n)
@@ -65,11 +62,3 @@ makes N.Atoms = ((λ v. []), ((λ v. v.0 ∷ v.1.0), tt))
 -- the productions with what they make
 abbrev pub made : (n : Part) → List (Made Terminal Part Lexeme carrier n)
 made n = made_by Terminal Part Lexeme carrier productions makes n
-
--- the values of the symbols of a part's production in this place stand on top
-abbrev pub CanMake : Part → ℕ → List (Item Lexeme Value) → Type 0
-CanMake n i values = CanBuild carrier held n (made n) i (reverse values)
-
--- what the production makes of them, and they are taken off
-abbrev pub IsMade : Part → ℕ → List (Item Lexeme Value) → Value → List (Item Lexeme Value) → Type 0
-IsMade n i old it new = IsBuilt carrier held n (made n) i (reverse old) it (reverse new)

@@ -1,11 +1,9 @@
 -- What productions make of the values of their symbols (TEXT.md, "Grammar").
-use Rattle.std.specs.Prelude.{Bool, true, false, List, [], ◌∷◌, Option, Some, None}
-use Rattle.aen_base.specs.declared.int_ty.IntTy.{IntTy}
+use Rattle.std.specs.Prelude.{List, [], ◌∷◌, Option, Some, None}
 use Rattle.aen_base.specs.declared.operators.Builtin.{Builtin}
 use Rattle.aen_base.specs.declared.operators.Builtin.TheVariants.{BoxNew, Replace, Swap}
 use Rattle.pure_ast.specs.declared.comp.Primitive.{Primitive}
 use Rattle.pure_ast.specs.declared.comp.Primitive.TheVariants as P
-use Rattle.text_table.specs.declared.class.Class.TheVariants as C
 use Rattle.text_table.specs.declared.lexeme.Lexeme.{Lexeme}
 use Rattle.raw_ast.specs.declared.spelling.Spelling.{Spelling}
 use Rattle.raw_ast.specs.declared.names.DefinitionName.{DefinitionName}

@@ -1,4 +1,4 @@
-//! How the values of productions are built. Written by tools/text_ways.py.
+//! What builds a part by its production. Written by tools/text_ways.py.
 
 mod atoms;
 mod code;
@@ -7,96 +7,72 @@ mod definitions;
 mod primitives;
 mod types;
 
-ghost use Rattle.std.specs.Prelude.{IfOk};
-ghost use Rattle.raw_reader.specs.Makes.{CanMake, IsMade};
+ghost use Rattle.std.specs.Prelude.{◌≡◌, reverse, IfOk};
+ghost use Rattle.raw_reader.specs.Built.{CanBuild, IsBuilt};
 
-use crate::building::atoms::{
-    build_after_constructor, build_arguments, build_atom, build_atom_in_brackets, build_atoms,
-    build_constructor, build_exit_variant, build_plain_atom, build_tuple_parts,
-};
-use crate::building::code::{
-    build_arms, build_bound, build_code, build_computation, build_pattern, build_pattern_parts,
-    build_variables,
-};
-use crate::building::declarations::{
-    build_declaration, build_fields, build_names, build_text, build_type_parameters, build_types,
-    build_variant_end, build_variant_type, build_variants,
-};
-use crate::building::definitions::{
-    build_back_end, build_definition, build_definition_name, build_definitions, build_fuel_match,
-    build_fuel_parameter, build_implicit_parameters, build_name_end, build_name_part,
-    build_parameters,
-};
-use crate::building::primitives::{
-    build_cast_from, build_in_memory, build_primitive, build_replace_end, build_swap_end,
-    build_swap_region,
-};
-use crate::building::types::{
-    build_after_type_name, build_factors, build_other_type, build_type, build_type_arguments,
-    build_type_in_brackets,
-};
 use aen_base::NoMem;
-use raw_values::value::{Value, Values};
+use raw_values::{Stack, Value};
 use std::alloc::Global;
 use text_table::Part;
 
-/// The value of a part by its production in this place.
-pub(crate) fn build(
+/// Builds the value of a part by its production in place `index`, from 0: takes the values of its symbols off, the
+/// newest first. The only error is want of memory.
+pub(crate) fn build_part(
     alloc: Global,
     part: Part,
     index: usize,
-    values: &mut Values,
+    values: &mut Stack,
 ) -> Result<Value, NoMem>
-    requires { CanMake part index values.old }
-    ensures { IfOk result (λ it. IsMade part index values.old it values.new) }
+    requires { CanBuild part index (reverse values.old) }
+    ensures { IfOk result (λ it. IsBuilt part index (reverse values.old) it (reverse values.new)) }
 {
     match part {
-        Part::Text => build_text(alloc, index, values),
-        Part::Types => build_types(alloc, index, values),
-        Part::Declaration => build_declaration(alloc, index, values),
-        Part::TypeParameters => build_type_parameters(alloc, index, values),
-        Part::Variants => build_variants(alloc, index, values),
-        Part::VariantType => build_variant_type(alloc, index, values),
-        Part::VariantEnd => build_variant_end(alloc, index, values),
-        Part::Names => build_names(alloc, index, values),
-        Part::Fields => build_fields(alloc, index, values),
-        Part::Type => build_type(alloc, index, values),
-        Part::OtherType => build_other_type(alloc, index, values),
-        Part::TypeInBrackets => build_type_in_brackets(alloc, index, values),
-        Part::AfterTypeName => build_after_type_name(alloc, index, values),
-        Part::TypeArguments => build_type_arguments(alloc, index, values),
-        Part::Factors => build_factors(alloc, index, values),
-        Part::Definitions => build_definitions(alloc, index, values),
-        Part::Definition => build_definition(alloc, index, values),
-        Part::FuelParameter => build_fuel_parameter(alloc, index, values),
-        Part::FuelMatch => build_fuel_match(alloc, index, values),
-        Part::DefinitionName => build_definition_name(alloc, index, values),
-        Part::NameEnd => build_name_end(alloc, index, values),
-        Part::NamePart => build_name_part(alloc, index, values),
-        Part::BackEnd => build_back_end(alloc, index, values),
-        Part::ImplicitParameters => build_implicit_parameters(alloc, index, values),
-        Part::Parameters => build_parameters(alloc, index, values),
-        Part::Code => build_code(alloc, index, values),
-        Part::Bound => build_bound(alloc, index, values),
-        Part::Arms => build_arms(alloc, index, values),
-        Part::Pattern => build_pattern(alloc, index, values),
-        Part::PatternParts => build_pattern_parts(alloc, index, values),
-        Part::Variables => build_variables(alloc, index, values),
-        Part::Computation => build_computation(alloc, index, values),
-        Part::Primitive => build_primitive(alloc, index, values),
-        Part::CastFrom => build_cast_from(alloc, index, values),
-        Part::InMemory => build_in_memory(alloc, index, values),
-        Part::ReplaceEnd => build_replace_end(alloc, index, values),
-        Part::SwapEnd => build_swap_end(alloc, index, values),
-        Part::SwapRegion => build_swap_region(alloc, index, values),
-        Part::Atom => build_atom(alloc, index, values),
-        Part::PlainAtom => build_plain_atom(alloc, index, values),
-        Part::Constructor => build_constructor(alloc, index, values),
-        Part::ExitVariant => build_exit_variant(alloc, index, values),
-        Part::AtomInBrackets => build_atom_in_brackets(alloc, index, values),
-        Part::AfterConstructor => build_after_constructor(alloc, index, values),
-        Part::TupleParts => build_tuple_parts(alloc, index, values),
-        Part::Arguments => build_arguments(alloc, index, values),
-        Part::Atoms => build_atoms(alloc, index, values),
+        Part::Text => declarations::build_text(index, values),
+        Part::Types => declarations::build_types(alloc, index, values),
+        Part::Declaration => declarations::build_declaration(index, values),
+        Part::TypeParameters => declarations::build_type_parameters(alloc, index, values),
+        Part::Variants => declarations::build_variants(alloc, index, values),
+        Part::VariantType => declarations::build_variant_type(alloc, index, values),
+        Part::VariantEnd => declarations::build_variant_end(alloc, index, values),
+        Part::Names => declarations::build_names(alloc, index, values),
+        Part::Fields => declarations::build_fields(alloc, index, values),
+        Part::Type => types::build_type(alloc, index, values),
+        Part::OtherType => types::build_other_type(index, values),
+        Part::TypeInBrackets => types::build_type_in_brackets(alloc, index, values),
+        Part::AfterTypeName => types::build_after_type_name(index, values),
+        Part::TypeArguments => types::build_type_arguments(alloc, index, values),
+        Part::Factors => types::build_factors(alloc, index, values),
+        Part::Definitions => definitions::build_definitions(alloc, index, values),
+        Part::Definition => definitions::build_definition(index, values),
+        Part::FuelParameter => definitions::build_fuel_parameter(index, values),
+        Part::FuelMatch => definitions::build_fuel_match(index, values),
+        Part::DefinitionName => definitions::build_definition_name(index, values),
+        Part::NameEnd => definitions::build_name_end(index, values),
+        Part::NamePart => definitions::build_name_part(index, values),
+        Part::BackEnd => definitions::build_back_end(index, values),
+        Part::ImplicitParameters => definitions::build_implicit_parameters(alloc, index, values),
+        Part::Parameters => definitions::build_parameters(alloc, index, values),
+        Part::Code => code::build_code(alloc, index, values),
+        Part::Bound => code::build_bound(index, values),
+        Part::Arms => code::build_arms(alloc, index, values),
+        Part::Pattern => code::build_pattern(index, values),
+        Part::PatternParts => code::build_pattern_parts(alloc, index, values),
+        Part::Variables => code::build_variables(alloc, index, values),
+        Part::Computation => code::build_computation(index, values),
+        Part::Primitive => primitives::build_primitive(index, values),
+        Part::CastFrom => primitives::build_cast_from(index, values),
+        Part::InMemory => primitives::build_in_memory(index, values),
+        Part::ReplaceEnd => primitives::build_replace_end(index, values),
+        Part::SwapEnd => primitives::build_swap_end(index, values),
+        Part::SwapRegion => primitives::build_swap_region(index, values),
+        Part::Atom => atoms::build_atom(alloc, index, values),
+        Part::PlainAtom => atoms::build_plain_atom(alloc, index, values),
+        Part::Constructor => atoms::build_constructor(index, values),
+        Part::ExitVariant => atoms::build_exit_variant(index, values),
+        Part::AtomInBrackets => atoms::build_atom_in_brackets(alloc, index, values),
+        Part::AfterConstructor => atoms::build_after_constructor(index, values),
+        Part::TupleParts => atoms::build_tuple_parts(alloc, index, values),
+        Part::Arguments => atoms::build_arguments(alloc, index, values),
+        Part::Atoms => atoms::build_atoms(alloc, index, values),
     }
 }

@@ -2,10 +2,11 @@
 #![tactic(auto)]
 
 mod building;
-mod builds;
-#[cfg(test)]
-mod tests;
+mod made;
+mod reader;
+mod reading;
 mod ways;
 mod words;
 
-pub use builds::TextReader;
+pub use reader::TextReader;
+pub use reading::{read_atom, read_text, read_type};

@@ -1,5 +1,5 @@
 -- What each part of the grammar is read as. Written by tools/text_ways.py.
-use Rattle.std.specs.Prelude.{ℕ, List, [], ◌∷◌, reverse, Option}
+use Rattle.std.specs.Prelude.{List, Option}
 use Rattle.text_table.specs.declared.part.Part.{Part}
 use Rattle.text_table.specs.declared.part.Part.TheVariants as N
 use Rattle.raw_ast.specs.declared.spelling.Spelling.{Spelling}
@@ -92,8 +92,8 @@ held N.TypeArguments v = V.Types v
 held N.Factors v = V.Types v
 held N.Definitions v = V.Definitions v
 held N.Definition v = V.Definition v
-held N.FuelParameter v = V.Nothing
-held N.FuelMatch v = V.Nothing
+held N.FuelParameter v = V.Nothing v
+held N.FuelMatch v = V.Nothing v
 held N.DefinitionName v = V.DefinitionName v
 held N.NameEnd v = V.NameEnd v
 held N.NamePart v = V.NameEnd v

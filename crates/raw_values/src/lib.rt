@@ -5,4 +5,6 @@
 pub mod front_list;
 pub mod rests;
 pub mod taking;
-pub mod value;
+mod value;
+
+pub use value::{Stack, Value};

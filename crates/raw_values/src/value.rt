@@ -1,4 +1,4 @@
-//! The values of parts. Written by tools/text_ways.py.
+//! What is held of each part. Written by tools/text_ways.py.
 
 use crate::front_list::FrontList;
 use crate::rests::{AfterConstructor, AfterName, AfterTypeName, Bound, NameEnd, VariantRest};
@@ -7,41 +7,40 @@ use raw_ast::{
     Computation, Constructor, Declaration, Definition, DefinitionName, Operation, Pattern, RawAtom,
     RawCode, RawText, RawType, Spelling, Variant,
 };
-use table_reader::Item;
 use text_table::Lexeme;
 
-/// What a part is read as.
+/// The value of a part: a variant for each type that parts carry.
 #[derive(Drop)]
 pub enum Value {
-    Nothing,
+    Text(RawText),
+    Declarations(FrontList<Declaration>),
+    Declaration(Declaration),
     Names(FrontList<Spelling>),
+    Variants(FrontList<Variant>),
+    VariantRest(VariantRest),
+    AfterName(AfterName),
+    Fields(FrontList<(Spelling, RawType)>),
     Type(RawType),
     Types(FrontList<RawType>),
     AfterTypeName(AfterTypeName),
-    Fields(FrontList<(Spelling, RawType)>),
-    VariantRest(VariantRest),
-    AfterName(AfterName),
-    Variants(FrontList<Variant>),
-    Declaration(Declaration),
-    Declarations(FrontList<Declaration>),
+    Definitions(FrontList<Definition>),
+    Definition(Definition),
+    Nothing(()),
     DefinitionName(DefinitionName),
     NameEnd(NameEnd),
     BackEnd(Option<Spelling>),
-    Definition(Definition),
-    Definitions(FrontList<Definition>),
-    Text(RawText),
-    Constructor(Constructor),
-    Atom(RawAtom),
-    Atoms(FrontList<RawAtom>),
-    AfterConstructor(AfterConstructor),
-    Pattern(Pattern),
-    Operation(Operation),
-    OperationEnd(Option<Operation>),
-    Computation(Computation),
     Code(RawCode),
     Bound(Bound),
     Arms(FrontList<(Pattern, RawCode)>),
+    Pattern(Pattern),
+    Computation(Computation),
+    Operation(Operation),
+    OperationEnd(Option<Operation>),
+    Atom(RawAtom),
+    Atoms(FrontList<RawAtom>),
+    Constructor(Constructor),
+    AfterConstructor(AfterConstructor),
 }
 
-/// The values of symbols that were read, the newest last.
-pub type Values = List<Item<Lexeme, Value>>;
+/// The values of symbols, the newest last.
+pub type Stack = List<table_reader::Item<Lexeme, Value>>;

@@ -8,6 +8,8 @@ mod grammar;
 #[cfg(test)]
 mod lemmas;
 #[cfg(test)]
+mod raw_texts;
+#[cfg(test)]
 mod round_trips;
 #[cfg(test)]
 mod values;

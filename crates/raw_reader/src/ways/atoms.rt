@@ -30,16 +30,16 @@ pub(crate) fn truth_atom(word: Lexeme) -> RawAtom
     RawAtom::truth(is_true(word.class))
 }
 
-pub(crate) fn unit_atom(alloc: Global) -> Result<RawAtom, NoMem>
-    ensures { IfOk result (λ it. it ≡ spec.unit_atom) }
+pub(crate) fn unit_atom(alloc: Global) -> RawAtom
+    ensures { result ≡ spec.unit_atom }
 {
-    Ok(RawAtom::tuple(List::new(alloc)))
+    RawAtom::tuple(List::new(alloc))
 }
 
-pub(crate) fn lone(alloc: Global, name: Constructor) -> Result<RawAtom, NoMem>
-    ensures { IfOk result (λ it. it ≡ spec.lone name) }
+pub(crate) fn lone(alloc: Global, name: Constructor) -> RawAtom
+    ensures { result ≡ spec.lone name }
 {
-    Ok(RawAtom::built(name, List::new(alloc)))
+    RawAtom::built(name, List::new(alloc))
 }
 
 pub(crate) fn tuple_atom(
@@ -76,8 +76,7 @@ pub(crate) fn bracketed(
     match after {
         AfterConstructor::Arguments(args) => Ok(RawAtom::built(name, args.into_list())),
         AfterConstructor::Parts(parts) => {
-            let first = lone(alloc, name)?;
-            let parts = parts.push(first)?;
+            let parts = parts.push(lone(alloc, name))?;
             Ok(RawAtom::tuple(parts.into_list()))
         }
     }

@@ -89,10 +89,7 @@ pub(crate) fn name_first(
     ensures { IfOk result (λ it. it ≡ spec.name_first name after) }
 {
     match after {
-        AfterName::Fields(rest) => {
-            let ty = named_alone(alloc, name)?;
-            Ok(field_first(ty, rest)?)
-        }
+        AfterName::Fields(rest) => { Ok(field_first(named_alone(alloc, name), rest)?) }
         AfterName::Parameters(parameters) => Ok(VariantRest {
             fields: FrontList::new(alloc),
             end: spelled(name),
@@ -101,10 +98,10 @@ pub(crate) fn name_first(
     }
 }
 
-pub(crate) fn ended(alloc: Global) -> Result<AfterName, NoMem>
-    ensures { IfOk result (λ it. it ≡ spec.ended) }
+pub(crate) fn ended(alloc: Global) -> AfterName
+    ensures { result ≡ spec.ended }
 {
-    Ok(AfterName::Parameters(FrontList::new(alloc)))
+    AfterName::Parameters(FrontList::new(alloc))
 }
 
 pub(crate) fn more_fields(rest: VariantRest) -> AfterName

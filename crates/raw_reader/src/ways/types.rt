@@ -30,10 +30,10 @@ pub(crate) fn unit_type() -> RawType
     RawType::unit()
 }
 
-pub(crate) fn named_alone(alloc: Global, name: Lexeme) -> Result<RawType, NoMem>
-    ensures { IfOk result (λ it. it ≡ spec.named_alone name) }
+pub(crate) fn named_alone(alloc: Global, name: Lexeme) -> RawType
+    ensures { result ≡ spec.named_alone name }
 {
-    Ok(RawType::named(spelled(name), List::new(alloc)))
+    RawType::named(spelled(name), List::new(alloc))
 }
 
 pub(crate) fn product_type(
@@ -76,8 +76,7 @@ pub(crate) fn after_name(
     match after {
         AfterTypeName::Arguments(args) => Ok(RawType::named(spelled(name), args.into_list())),
         AfterTypeName::Factors(factors) => {
-            let first = named_alone(alloc, name)?;
-            let parts = factors.push(first)?;
+            let parts = factors.push(named_alone(alloc, name))?;
             Ok(RawType::product(parts.into_list()))
         }
     }

@@ -1,20 +1,18 @@
--- Each arm is the production of its place.
-use Rattle.std.proofs.Common.{refl, reverse}
-use Rattle.table_reader.specs.Building.{can_build_at, built_at}
-use Rattle.aen_base.specs.declared.memory.NoMem.{NoMem}
+-- What `build_atoms` calls builds the part. Written by tools/text_ways.py.
+use Rattle.std.proofs.Common.{reverse, Ok}
 use Rattle.text_table.specs.declared.part.Part.TheVariants as N
-use Rattle.raw_values.specs.Carriers.{carrier, held}
-use Rattle.raw_reader.specs.Makes.{made}
+use Rattle.raw_reader.proofs.Places.{at_place, built_at_place}
 use Rattle.raw_reader.proofs.building.atoms.build_atoms.Goals as goal
 
-pub first_atoms-requires : goal.first_atoms-requires
-first_atoms-requires c = can_build_at carrier held made N.Atoms N.Atoms c.args.index 0 (reverse c.args.values.now) refl c.in-eq0.is c.requires
+pub returns-in-0 : goal.returns-in-0
+returns-in-0 c =
+    built_at_place N.Atoms c.args.index 0 (reverse c.args.values.now) (reverse c.atoms_0.new.values) (Ok c.atoms_0.result) c.in-0.is c.atoms_0.ensures
 
-pub returns-in-eq0 : goal.returns-in-eq0
-returns-in-eq0 c = built_at carrier held made N.Atoms N.Atoms c.args.index 0 (reverse c.args.values.now) (reverse c.first_atoms.new.values) NoMem c.first_atoms.result refl c.in-eq0.is c.first_atoms.ensures
+pub arguments_1-requires : goal.arguments_1-requires
+arguments_1-requires c =
+    let h = at_place N.Atoms c.args.index 1 (reverse c.args.values.now) c.in-1.is c.requires in
+    record { value = h.value; below = h.below; makes = h.makes }
 
-pub second_atoms-requires : goal.second_atoms-requires
-second_atoms-requires c = can_build_at carrier held made N.Atoms N.Atoms c.args.index 1 (reverse c.args.values.now) refl c.in-eq1.is c.requires
-
-pub returns-in-eq1 : goal.returns-in-eq1
-returns-in-eq1 c = built_at carrier held made N.Atoms N.Atoms c.args.index 1 (reverse c.args.values.now) (reverse c.second_atoms.new.values) NoMem c.second_atoms.result refl c.in-eq1.is c.second_atoms.ensures
+pub returns-in-1 : goal.returns-in-1
+returns-in-1 c =
+    built_at_place N.Atoms c.args.index 1 (reverse c.args.values.now) (reverse c.arguments_1.new.values) c.arguments_1.result c.in-1.is c.arguments_1.ensures

@@ -1,26 +1,17 @@
--- Each arm is the production of its place.
-use Rattle.std.proofs.Common.{refl, reverse}
-use Rattle.table_reader.specs.Building.{can_build_at, built_at}
-use Rattle.aen_base.specs.declared.memory.NoMem.{NoMem}
+-- What `build_code` calls builds the part. Written by tools/text_ways.py.
+use Rattle.std.proofs.Common.{reverse, Ok}
 use Rattle.text_table.specs.declared.part.Part.TheVariants as N
-use Rattle.raw_values.specs.Carriers.{carrier, held}
-use Rattle.raw_reader.specs.Makes.{made}
+use Rattle.raw_reader.proofs.Places.{built_at_place}
 use Rattle.raw_reader.proofs.building.code.build_code.Goals as goal
 
-pub first_code-requires : goal.first_code-requires
-first_code-requires c = can_build_at carrier held made N.Code N.Code c.args.index 0 (reverse c.args.values.now) refl c.in-eq0.is c.requires
+pub returns-in-0 : goal.returns-in-0
+returns-in-0 c =
+    built_at_place N.Code c.args.index 0 (reverse c.args.values.now) (reverse c.code_0.new.values) c.code_0.result c.in-0.is c.code_0.ensures
 
-pub returns-in-eq0 : goal.returns-in-eq0
-returns-in-eq0 c = built_at carrier held made N.Code N.Code c.args.index 0 (reverse c.args.values.now) (reverse c.first_code.new.values) NoMem c.first_code.result refl c.in-eq0.is c.first_code.ensures
+pub returns-in-1 : goal.returns-in-1
+returns-in-1 c =
+    built_at_place N.Code c.args.index 1 (reverse c.args.values.now) (reverse c.code_1.new.values) (Ok c.code_1.result) c.in-1.is c.code_1.ensures
 
-pub second_code-requires : goal.second_code-requires
-second_code-requires c = can_build_at carrier held made N.Code N.Code c.args.index 1 (reverse c.args.values.now) refl c.in-eq1.is c.requires
-
-pub returns-in-eq1 : goal.returns-in-eq1
-returns-in-eq1 c = built_at carrier held made N.Code N.Code c.args.index 1 (reverse c.args.values.now) (reverse c.second_code.new.values) NoMem c.second_code.result refl c.in-eq1.is c.second_code.ensures
-
-pub third_code-requires : goal.third_code-requires
-third_code-requires c = can_build_at carrier held made N.Code N.Code c.args.index 2 (reverse c.args.values.now) refl c.in-eq2.is c.requires
-
-pub returns-in-eq2 : goal.returns-in-eq2
-returns-in-eq2 c = built_at carrier held made N.Code N.Code c.args.index 2 (reverse c.args.values.now) (reverse c.third_code.new.values) NoMem c.third_code.result refl c.in-eq2.is c.third_code.ensures
+pub returns-in-2 : goal.returns-in-2
+returns-in-2 c =
+    built_at_place N.Code c.args.index 2 (reverse c.args.values.now) (reverse c.code_2.new.values) (Ok c.code_2.result) c.in-2.is c.code_2.ensures

@@ -1,26 +1,17 @@
--- Each arm is the production of its place.
-use Rattle.std.proofs.Common.{refl, reverse}
-use Rattle.table_reader.specs.Building.{can_build_at, built_at}
-use Rattle.aen_base.specs.declared.memory.NoMem.{NoMem}
+-- What `build_pattern` calls builds the part. Written by tools/text_ways.py.
+use Rattle.std.proofs.Common.{reverse, Ok}
 use Rattle.text_table.specs.declared.part.Part.TheVariants as N
-use Rattle.raw_values.specs.Carriers.{carrier, held}
-use Rattle.raw_reader.specs.Makes.{made}
+use Rattle.raw_reader.proofs.Places.{built_at_place}
 use Rattle.raw_reader.proofs.building.code.build_pattern.Goals as goal
 
-pub first_pattern-requires : goal.first_pattern-requires
-first_pattern-requires c = can_build_at carrier held made N.Pattern N.Pattern c.args.index 0 (reverse c.args.values.now) refl c.in-eq0.is c.requires
+pub returns-in-0 : goal.returns-in-0
+returns-in-0 c =
+    built_at_place N.Pattern c.args.index 0 (reverse c.args.values.now) (reverse c.pattern_0.new.values) (Ok c.pattern_0.result) c.in-0.is c.pattern_0.ensures
 
-pub returns-in-eq0 : goal.returns-in-eq0
-returns-in-eq0 c = built_at carrier held made N.Pattern N.Pattern c.args.index 0 (reverse c.args.values.now) (reverse c.first_pattern.new.values) NoMem c.first_pattern.result refl c.in-eq0.is c.first_pattern.ensures
+pub returns-in-1 : goal.returns-in-1
+returns-in-1 c =
+    built_at_place N.Pattern c.args.index 1 (reverse c.args.values.now) (reverse c.pattern_1.new.values) c.pattern_1.result c.in-1.is c.pattern_1.ensures
 
-pub second_pattern-requires : goal.second_pattern-requires
-second_pattern-requires c = can_build_at carrier held made N.Pattern N.Pattern c.args.index 1 (reverse c.args.values.now) refl c.in-eq1.is c.requires
-
-pub returns-in-eq1 : goal.returns-in-eq1
-returns-in-eq1 c = built_at carrier held made N.Pattern N.Pattern c.args.index 1 (reverse c.args.values.now) (reverse c.second_pattern.new.values) NoMem c.second_pattern.result refl c.in-eq1.is c.second_pattern.ensures
-
-pub third_pattern-requires : goal.third_pattern-requires
-third_pattern-requires c = can_build_at carrier held made N.Pattern N.Pattern c.args.index 2 (reverse c.args.values.now) refl c.in-eq2.is c.requires
-
-pub returns-in-eq2 : goal.returns-in-eq2
-returns-in-eq2 c = built_at carrier held made N.Pattern N.Pattern c.args.index 2 (reverse c.args.values.now) (reverse c.third_pattern.new.values) NoMem c.third_pattern.result refl c.in-eq2.is c.third_pattern.ensures
+pub returns-in-2 : goal.returns-in-2
+returns-in-2 c =
+    built_at_place N.Pattern c.args.index 2 (reverse c.args.values.now) (reverse c.pattern_2.new.values) (Ok c.pattern_2.result) c.in-2.is c.pattern_2.ensures

@@ -1,20 +1,13 @@
--- Each arm is the production of its place.
-use Rattle.std.proofs.Common.{refl, reverse}
-use Rattle.table_reader.specs.Building.{can_build_at, built_at}
-use Rattle.aen_base.specs.declared.memory.NoMem.{NoMem}
+-- What `build_declaration` calls builds the part. Written by tools/text_ways.py.
+use Rattle.std.proofs.Common.{reverse, Ok}
 use Rattle.text_table.specs.declared.part.Part.TheVariants as N
-use Rattle.raw_values.specs.Carriers.{carrier, held}
-use Rattle.raw_reader.specs.Makes.{made}
+use Rattle.raw_reader.proofs.Places.{built_at_place}
 use Rattle.raw_reader.proofs.building.declarations.build_declaration.Goals as goal
 
-pub first_declaration-requires : goal.first_declaration-requires
-first_declaration-requires c = can_build_at carrier held made N.Declaration N.Declaration c.args.index 0 (reverse c.args.values.now) refl c.in-eq0.is c.requires
+pub returns-in-0 : goal.returns-in-0
+returns-in-0 c =
+    built_at_place N.Declaration c.args.index 0 (reverse c.args.values.now) (reverse c.declaration_0.new.values) (Ok c.declaration_0.result) c.in-0.is c.declaration_0.ensures
 
-pub returns-in-eq0 : goal.returns-in-eq0
-returns-in-eq0 c = built_at carrier held made N.Declaration N.Declaration c.args.index 0 (reverse c.args.values.now) (reverse c.first_declaration.new.values) NoMem c.first_declaration.result refl c.in-eq0.is c.first_declaration.ensures
-
-pub second_declaration-requires : goal.second_declaration-requires
-second_declaration-requires c = can_build_at carrier held made N.Declaration N.Declaration c.args.index 1 (reverse c.args.values.now) refl c.in-eq1.is c.requires
-
-pub returns-in-eq1 : goal.returns-in-eq1
-returns-in-eq1 c = built_at carrier held made N.Declaration N.Declaration c.args.index 1 (reverse c.args.values.now) (reverse c.second_declaration.new.values) NoMem c.second_declaration.result refl c.in-eq1.is c.second_declaration.ensures
+pub returns-in-1 : goal.returns-in-1
+returns-in-1 c =
+    built_at_place N.Declaration c.args.index 1 (reverse c.args.values.now) (reverse c.declaration_1.new.values) (Ok c.declaration_1.result) c.in-1.is c.declaration_1.ensures

@@ -1,20 +1,13 @@
--- Each arm is the production of its place.
-use Rattle.std.proofs.Common.{refl, reverse}
-use Rattle.table_reader.specs.Building.{can_build_at, built_at}
-use Rattle.aen_base.specs.declared.memory.NoMem.{NoMem}
+-- What `build_back_end` calls builds the part. Written by tools/text_ways.py.
+use Rattle.std.proofs.Common.{reverse, Ok}
 use Rattle.text_table.specs.declared.part.Part.TheVariants as N
-use Rattle.raw_values.specs.Carriers.{carrier, held}
-use Rattle.raw_reader.specs.Makes.{made}
+use Rattle.raw_reader.proofs.Places.{built_at_place}
 use Rattle.raw_reader.proofs.building.definitions.build_back_end.Goals as goal
 
-pub first_back_end-requires : goal.first_back_end-requires
-first_back_end-requires c = can_build_at carrier held made N.BackEnd N.BackEnd c.args.index 0 (reverse c.args.values.now) refl c.in-eq0.is c.requires
+pub returns-in-0 : goal.returns-in-0
+returns-in-0 c =
+    built_at_place N.BackEnd c.args.index 0 (reverse c.args.values.now) (reverse c.back_end_0.new.values) (Ok c.back_end_0.result) c.in-0.is c.back_end_0.ensures
 
-pub returns-in-eq0 : goal.returns-in-eq0
-returns-in-eq0 c = built_at carrier held made N.BackEnd N.BackEnd c.args.index 0 (reverse c.args.values.now) (reverse c.first_back_end.new.values) NoMem c.first_back_end.result refl c.in-eq0.is c.first_back_end.ensures
-
-pub second_back_end-requires : goal.second_back_end-requires
-second_back_end-requires c = can_build_at carrier held made N.BackEnd N.BackEnd c.args.index 1 (reverse c.args.values.now) refl c.in-eq1.is c.requires
-
-pub returns-in-eq1 : goal.returns-in-eq1
-returns-in-eq1 c = built_at carrier held made N.BackEnd N.BackEnd c.args.index 1 (reverse c.args.values.now) (reverse c.second_back_end.new.values) NoMem c.second_back_end.result refl c.in-eq1.is c.second_back_end.ensures
+pub returns-in-1 : goal.returns-in-1
+returns-in-1 c =
+    built_at_place N.BackEnd c.args.index 1 (reverse c.args.values.now) (reverse c.back_end_1.new.values) (Ok c.back_end_1.result) c.in-1.is c.back_end_1.ensures

@@ -1,14 +1,9 @@
--- Each arm is the production of its place.
-use Rattle.std.proofs.Common.{refl, reverse}
-use Rattle.table_reader.specs.Building.{can_build_at, built_at}
-use Rattle.aen_base.specs.declared.memory.NoMem.{NoMem}
+-- What `build_fuel_parameter` calls builds the part. Written by tools/text_ways.py.
+use Rattle.std.proofs.Common.{reverse, Ok}
 use Rattle.text_table.specs.declared.part.Part.TheVariants as N
-use Rattle.raw_values.specs.Carriers.{carrier, held}
-use Rattle.raw_reader.specs.Makes.{made}
+use Rattle.raw_reader.proofs.Places.{built_at_place}
 use Rattle.raw_reader.proofs.building.definitions.build_fuel_parameter.Goals as goal
 
-pub only_fuel_parameter-requires : goal.only_fuel_parameter-requires
-only_fuel_parameter-requires c = can_build_at carrier held made N.FuelParameter N.FuelParameter c.args.index 0 (reverse c.args.values.now) refl c.in-eq0.is c.requires
-
-pub returns-in-eq0 : goal.returns-in-eq0
-returns-in-eq0 c = built_at carrier held made N.FuelParameter N.FuelParameter c.args.index 0 (reverse c.args.values.now) (reverse c.only_fuel_parameter.new.values) NoMem c.only_fuel_parameter.result refl c.in-eq0.is c.only_fuel_parameter.ensures
+pub returns : goal.returns
+returns c =
+    built_at_place N.FuelParameter c.args.index 0 (reverse c.args.values.now) (reverse c.fuel_parameter_0.new.values) (Ok c.fuel_parameter_0.result) c.in-0.is c.fuel_parameter_0.ensures

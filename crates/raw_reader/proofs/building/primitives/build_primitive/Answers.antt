@@ -1,38 +1,30 @@
--- Each arm is the production of its place.
-use Rattle.std.proofs.Common.{refl, reverse}
-use Rattle.table_reader.specs.Building.{can_build_at, built_at}
-use Rattle.aen_base.specs.declared.memory.NoMem.{NoMem}
+-- What `build_primitive` calls builds the part. Written by tools/text_ways.py.
+use Rattle.std.proofs.Common.{reverse, Ok}
 use Rattle.text_table.specs.declared.part.Part.TheVariants as N
-use Rattle.raw_values.specs.Carriers.{carrier, held}
-use Rattle.raw_reader.specs.Makes.{made}
+use Rattle.raw_reader.proofs.Places.{at_place, built_at_place}
 use Rattle.raw_reader.proofs.building.primitives.build_primitive.Goals as goal
 
-pub first_primitive-requires : goal.first_primitive-requires
-first_primitive-requires c = can_build_at carrier held made N.Primitive N.Primitive c.args.index 0 (reverse c.args.values.now) refl c.in-eq0.is c.requires
+pub returns-in-0 : goal.returns-in-0
+returns-in-0 c =
+    built_at_place N.Primitive c.args.index 0 (reverse c.args.values.now) (reverse c.primitive_0.new.values) (Ok c.primitive_0.result) c.in-0.is c.primitive_0.ensures
 
-pub returns-in-eq0 : goal.returns-in-eq0
-returns-in-eq0 c = built_at carrier held made N.Primitive N.Primitive c.args.index 0 (reverse c.args.values.now) (reverse c.first_primitive.new.values) NoMem c.first_primitive.result refl c.in-eq0.is c.first_primitive.ensures
+pub returns-in-1 : goal.returns-in-1
+returns-in-1 c =
+    built_at_place N.Primitive c.args.index 1 (reverse c.args.values.now) (reverse c.primitive_1.new.values) (Ok c.primitive_1.result) c.in-1.is c.primitive_1.ensures
 
-pub second_primitive-requires : goal.second_primitive-requires
-second_primitive-requires c = can_build_at carrier held made N.Primitive N.Primitive c.args.index 1 (reverse c.args.values.now) refl c.in-eq1.is c.requires
+pub returns-in-2 : goal.returns-in-2
+returns-in-2 c =
+    built_at_place N.Primitive c.args.index 2 (reverse c.args.values.now) (reverse c.primitive_2.new.values) (Ok c.primitive_2.result) c.in-2.is c.primitive_2.ensures
 
-pub returns-in-eq1 : goal.returns-in-eq1
-returns-in-eq1 c = built_at carrier held made N.Primitive N.Primitive c.args.index 1 (reverse c.args.values.now) (reverse c.second_primitive.new.values) NoMem c.second_primitive.result refl c.in-eq1.is c.second_primitive.ensures
+pub returns-in-3 : goal.returns-in-3
+returns-in-3 c =
+    built_at_place N.Primitive c.args.index 3 (reverse c.args.values.now) (reverse c.primitive_3.new.values) (Ok c.primitive_3.result) c.in-3.is c.primitive_3.ensures
 
-pub third_primitive-requires : goal.third_primitive-requires
-third_primitive-requires c = can_build_at carrier held made N.Primitive N.Primitive c.args.index 2 (reverse c.args.values.now) refl c.in-eq2.is c.requires
+pub primitive_2-requires-in-4 : goal.primitive_2-requires-in-4
+primitive_2-requires-in-4 c =
+    let h = at_place N.Primitive c.args.index 4 (reverse c.args.values.now) c.in-4.is c.requires in
+    record { value = h.value; below = h.below; makes = h.makes }
 
-pub returns-in-eq2 : goal.returns-in-eq2
-returns-in-eq2 c = built_at carrier held made N.Primitive N.Primitive c.args.index 2 (reverse c.args.values.now) (reverse c.third_primitive.new.values) NoMem c.third_primitive.result refl c.in-eq2.is c.third_primitive.ensures
-
-pub fourth_primitive-requires : goal.fourth_primitive-requires
-fourth_primitive-requires c = can_build_at carrier held made N.Primitive N.Primitive c.args.index 3 (reverse c.args.values.now) refl c.in-eq3.is c.requires
-
-pub returns-in-eq3 : goal.returns-in-eq3
-returns-in-eq3 c = built_at carrier held made N.Primitive N.Primitive c.args.index 3 (reverse c.args.values.now) (reverse c.fourth_primitive.new.values) NoMem c.fourth_primitive.result refl c.in-eq3.is c.fourth_primitive.ensures
-
-pub fifth_primitive-requires : goal.fifth_primitive-requires
-fifth_primitive-requires c = can_build_at carrier held made N.Primitive N.Primitive c.args.index 4 (reverse c.args.values.now) refl c.in-eq4.is c.requires
-
-pub returns-in-eq4 : goal.returns-in-eq4
-returns-in-eq4 c = built_at carrier held made N.Primitive N.Primitive c.args.index 4 (reverse c.args.values.now) (reverse c.fifth_primitive.new.values) NoMem c.fifth_primitive.result refl c.in-eq4.is c.fifth_primitive.ensures
+pub returns-in-4 : goal.returns-in-4
+returns-in-4 c =
+    built_at_place N.Primitive c.args.index 4 (reverse c.args.values.now) (reverse c.primitive_2-in-4.new.values) (Ok c.primitive_2-in-4.result) c.in-4.is c.primitive_2-in-4.ensures

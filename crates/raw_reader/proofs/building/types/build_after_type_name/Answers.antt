@@ -1,20 +1,13 @@
--- Each arm is the production of its place.
-use Rattle.std.proofs.Common.{refl, reverse}
-use Rattle.table_reader.specs.Building.{can_build_at, built_at}
-use Rattle.aen_base.specs.declared.memory.NoMem.{NoMem}
+-- What `build_after_type_name` calls builds the part. Written by tools/text_ways.py.
+use Rattle.std.proofs.Common.{reverse}
 use Rattle.text_table.specs.declared.part.Part.TheVariants as N
-use Rattle.raw_values.specs.Carriers.{carrier, held}
-use Rattle.raw_reader.specs.Makes.{made}
+use Rattle.raw_reader.proofs.Places.{built_at_place}
 use Rattle.raw_reader.proofs.building.types.build_after_type_name.Goals as goal
 
-pub first_after_type_name-requires : goal.first_after_type_name-requires
-first_after_type_name-requires c = can_build_at carrier held made N.AfterTypeName N.AfterTypeName c.args.index 0 (reverse c.args.values.now) refl c.in-eq0.is c.requires
+pub returns-in-0 : goal.returns-in-0
+returns-in-0 c =
+    built_at_place N.AfterTypeName c.args.index 0 (reverse c.args.values.now) (reverse c.after_type_name_0.new.values) c.after_type_name_0.result c.in-0.is c.after_type_name_0.ensures
 
-pub returns-in-eq0 : goal.returns-in-eq0
-returns-in-eq0 c = built_at carrier held made N.AfterTypeName N.AfterTypeName c.args.index 0 (reverse c.args.values.now) (reverse c.first_after_type_name.new.values) NoMem c.first_after_type_name.result refl c.in-eq0.is c.first_after_type_name.ensures
-
-pub second_after_type_name-requires : goal.second_after_type_name-requires
-second_after_type_name-requires c = can_build_at carrier held made N.AfterTypeName N.AfterTypeName c.args.index 1 (reverse c.args.values.now) refl c.in-eq1.is c.requires
-
-pub returns-in-eq1 : goal.returns-in-eq1
-returns-in-eq1 c = built_at carrier held made N.AfterTypeName N.AfterTypeName c.args.index 1 (reverse c.args.values.now) (reverse c.second_after_type_name.new.values) NoMem c.second_after_type_name.result refl c.in-eq1.is c.second_after_type_name.ensures
+pub returns-in-1 : goal.returns-in-1
+returns-in-1 c =
+    built_at_place N.AfterTypeName c.args.index 1 (reverse c.args.values.now) (reverse c.after_type_name_1.new.values) c.after_type_name_1.result c.in-1.is c.after_type_name_1.ensures

@@ -1,20 +1,18 @@
--- Each arm is the production of its place.
-use Rattle.std.proofs.Common.{refl, reverse}
-use Rattle.table_reader.specs.Building.{can_build_at, built_at}
-use Rattle.aen_base.specs.declared.memory.NoMem.{NoMem}
+-- What `build_factors` calls builds the part. Written by tools/text_ways.py.
+use Rattle.std.proofs.Common.{reverse, Ok}
 use Rattle.text_table.specs.declared.part.Part.TheVariants as N
-use Rattle.raw_values.specs.Carriers.{carrier, held}
-use Rattle.raw_reader.specs.Makes.{made}
+use Rattle.raw_reader.proofs.Places.{at_place, built_at_place}
 use Rattle.raw_reader.proofs.building.types.build_factors.Goals as goal
 
-pub first_factors-requires : goal.first_factors-requires
-first_factors-requires c = can_build_at carrier held made N.Factors N.Factors c.args.index 0 (reverse c.args.values.now) refl c.in-eq0.is c.requires
+pub type_arguments_0-requires : goal.type_arguments_0-requires
+type_arguments_0-requires c =
+    let h = at_place N.Factors c.args.index 0 (reverse c.args.values.now) c.in-0.is c.requires in
+    record { value = h.value; below = h.below; makes = h.makes }
 
-pub returns-in-eq0 : goal.returns-in-eq0
-returns-in-eq0 c = built_at carrier held made N.Factors N.Factors c.args.index 0 (reverse c.args.values.now) (reverse c.first_factors.new.values) NoMem c.first_factors.result refl c.in-eq0.is c.first_factors.ensures
+pub returns-in-0 : goal.returns-in-0
+returns-in-0 c =
+    built_at_place N.Factors c.args.index 0 (reverse c.args.values.now) (reverse c.type_arguments_0.new.values) (Ok c.type_arguments_0.result) c.in-0.is c.type_arguments_0.ensures
 
-pub second_factors-requires : goal.second_factors-requires
-second_factors-requires c = can_build_at carrier held made N.Factors N.Factors c.args.index 1 (reverse c.args.values.now) refl c.in-eq1.is c.requires
-
-pub returns-in-eq1 : goal.returns-in-eq1
-returns-in-eq1 c = built_at carrier held made N.Factors N.Factors c.args.index 1 (reverse c.args.values.now) (reverse c.second_factors.new.values) NoMem c.second_factors.result refl c.in-eq1.is c.second_factors.ensures
+pub returns-in-1 : goal.returns-in-1
+returns-in-1 c =
+    built_at_place N.Factors c.args.index 1 (reverse c.args.values.now) (reverse c.factors_1.new.values) c.factors_1.result c.in-1.is c.factors_1.ensures

@@ -1,6 +1,8 @@
-use crate::building;
+ghost use Rattle.std.specs.Prelude.{◌≡◌, IfOk};
+
+use crate::building::build_part;
 use aen_base::NoMem;
-use raw_values::value::{Value, Values};
+use raw_values::{Stack, Value};
 use std::alloc::Global;
 use table_reader::{Builds, Grammar, Production, Take};
 use text_table::{Lexeme, Part, Terminal, TextGrammar};
@@ -43,12 +45,8 @@ impl Grammar for TextReader {
 }
 
 impl Builds for TextReader {
-    ghost use Rattle.table_reader.specs.Making.{same_made};
-    ghost use Rattle.text_table.specs.declared.lexeme.Lexeme.{Lexeme};
-    ghost use Rattle.text_table.specs.declared.part.Part.{Part};
-    ghost use Rattle.text_table.specs.declared.terminal.Terminal.{Terminal};
-    ghost use Rattle.text_table.specs.Productions.{productions};
     ghost use Rattle.raw_values.specs.Carriers as carriers;
+    ghost use Rattle.raw_reader.specs.Made as made_of;
     ghost use Rattle.raw_reader.specs.Makes as makes;
 
     type Value = Value;
@@ -60,17 +58,24 @@ impl Builds for TextReader {
     ghost held = { carriers.held };
 
     fn copy(alloc: Global, lexeme: &Lexeme) -> Result<Lexeme, NoMem> {
-        let text = lexeme.text.try_clone(alloc)?;
-        Ok(Lexeme {
-            class: lexeme.class,
-            span: lexeme.span,
-            text,
-        })
+        copied(alloc, lexeme)
     }
 
-    fn build(alloc: Global, part: Part, index: usize, values: &mut Values) -> Result<Value, NoMem> {
-        Ok(building::build(alloc, part, index, values)?)
+    fn build(alloc: Global, part: Part, index: usize, values: &mut Stack) -> Result<Value, NoMem> {
+        build_part(alloc, part, index, values)
     }
 
-    ghost same_productions = { same_made Terminal Part Lexeme carriers.carrier productions makes.makes };
+    ghost same_productions = { made_of.same_productions };
+}
+
+/// A copy of a lexeme. The only error is want of memory.
+fn copied(alloc: Global, lexeme: &Lexeme) -> Result<Lexeme, NoMem>
+    ensures { IfOk result (λ it. it ≡ lexeme.now) }
+{
+    let text = lexeme.text.try_clone(alloc)?;
+    Ok(Lexeme {
+        class: lexeme.class,
+        span: lexeme.span,
+        text,
+    })
 }

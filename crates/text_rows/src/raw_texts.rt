@@ -1,42 +1,49 @@
-use crate::TextReader;
-use aen_base::{List, Name, NoMem, Span};
-use raw_values::value::Value;
-use std::alloc::Global;
-use table_reader::read;
-use text_table::{Class, Lexeme, Part, class_named};
+//! Lexemes, read as a text by its table.
 
-/// The lexemes of words that have a class of their own, of marks, and of the variables `v0` and `v1`.
+use aen_base::{List, Name, NoMem, Span};
+use raw_reader::read_text;
+use std::alloc::Global;
+use text_table::{Class, Lexeme, class_named};
+
+/// The class of a word, a mark or one of the variables `v0` and `v1`.
+fn class_of(word: &str) -> Class {
+    match word {
+        "(" => Class::OpenBracket,
+        ")" => Class::CloseBracket,
+        ":" => Class::Colon,
+        ":=" => Class::Becomes,
+        "." => Class::Dot,
+        "," => Class::Comma,
+        ";" => Class::Semicolon,
+        "|" => Class::Bar,
+        "=>" => Class::Gives,
+        "+" => Class::Plus,
+        "<-" => Class::From,
+        "0" => Class::Zero,
+        "1" => Class::One,
+        "v0" | "v1" => Class::Variable,
+        word => match class_named(word) {
+            Some(class) => class,
+            None => Class::Other,
+        },
+    }
+}
+
+/// The lexemes of words, each one byte long.
 fn lexemes(alloc: Global, words: &[&str]) -> Result<List<Lexeme>, NoMem> {
     let mut lexemes = List::new(alloc);
     let mut place = 0u32;
     for word in words {
-        let class = match *word {
-            "(" => Class::OpenBracket,
-            ")" => Class::CloseBracket,
-            ":" => Class::Colon,
-            ":=" => Class::Becomes,
-            "." => Class::Dot,
-            "," => Class::Comma,
-            ";" => Class::Semicolon,
-            "|" => Class::Bar,
-            "=>" => Class::Gives,
-            "+" => Class::Plus,
-            "<-" => Class::From,
-            "0" => Class::Zero,
-            "1" => Class::One,
-            "v0" | "v1" => Class::Variable,
-            word => match class_named(word) {
-                Some(class) => class,
-                None => Class::Other,
-            },
-        };
         let text = Name::from_str(alloc, *word)?;
         let next = place.saturating_add(1);
-        let span = Span {
-            lo: place,
-            hi: next,
-        };
-        lexemes.push(Lexeme { class, span, text })?;
+        lexemes.push(Lexeme {
+            class: class_of(*word),
+            span: Span {
+                lo: place,
+                hi: next,
+            },
+            text,
+        })?;
         place = next;
     }
     Ok(lexemes)
@@ -93,13 +100,13 @@ fn a_text_is_read(rt: HostRuntime) -> Result<(), NoMem> {
         "v1",
     ];
     let lexemes = lexemes(rt.alloc(), &words)?;
-    let Ok(Value::Text(text)) = read::<TextReader>(rt.alloc(), Part::Text, lexemes.as_slice())?
-    else {
-        assert!(rt; false);
-        return Ok(());
-    };
-    assert_eq!(rt; text.types.len(), 0);
-    assert_eq!(rt; text.definitions.len(), 1);
+    match read_text(rt.alloc(), lexemes.as_slice())? {
+        Ok(text) => {
+            assert_eq!(rt; text.types.len(), 0);
+            assert_eq!(rt; text.definitions.len(), 1);
+        }
+        Err(_place) => assert!(rt; false),
+    }
     Ok(())
 }
 
@@ -115,8 +122,8 @@ fn a_fault_has_its_place(rt: HostRuntime) -> Result<(), NoMem> {
         "f",
     ];
     let lexemes = lexemes(rt.alloc(), &words)?;
-    match read::<TextReader>(rt.alloc(), Part::Text, lexemes.as_slice())? {
-        Ok(_value) => assert!(rt; false),
+    match read_text(rt.alloc(), lexemes.as_slice())? {
+        Ok(_text) => assert!(rt; false),
         Err(place) => assert_eq!(rt; place, 6),
     }
     Ok(())
