@@ -20,7 +20,7 @@ use Rattle.sums_ast.specs.Tree as t
 use Rattle.sums_ast.specs.declared.function.Function as sums
 use Rattle.source_meaning.specs.Typing.{IsU32, IsCallee, IsTypedExpr, AreTypedExprs, IsTypedBody, IsTypedBlock, IsTypedFunction, AreTyped, IsTyped}
 use Rattle.rust_sums.specs.Gets.{and_then, where_}
-use Rattle.rust_sums.specs.Names.{is_name}
+use Rattle.text_tokens.specs.Naming.{is_name}
 use Rattle.rust_sums.specs.Sums as spec
 use Rattle.rust_sums.proofs.Steps.{found_after, found_where}
 

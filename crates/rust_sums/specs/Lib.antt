@@ -1,3 +1,2 @@
 pub mod Gets
-pub mod Names
 pub mod Sums

@@ -22,7 +22,7 @@ use Rattle.sums_ast.specs.Tree as t
 use Rattle.sums_ast.specs.declared.function.Function as sums
 use Rattle.sums_ast.specs.declared.function.Program.{Program}
 use Rattle.rust_sums.specs.Gets.{and_then, where_}
-use Rattle.rust_sums.specs.Names.{is_name}
+use Rattle.text_tokens.specs.Naming.{is_name}
 
 -- ---- types
 

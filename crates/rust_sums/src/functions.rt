@@ -10,13 +10,13 @@ ghost use Rattle.rust_sums.specs.Gets.{Gets};
 ghost use Rattle.rust_sums.specs.Sums as spec;
 
 use crate::SumsFault;
-use crate::names::is_name;
 use crate::statements::body;
 use crate::types::{are_u32, gives_u32};
 use aen_base::{List, Name, NoMem};
 use rust_ast::{Resolved, Variable, resolution};
 use std::alloc::Global;
 use sums_ast::{Block, Function, Program};
+use text_tokens::is_name;
 
 /// Whether a function is without lifetimes and type parameters, and from `u32` to `u32`.
 #[tactic(auto, unfolding(crate::specs::Sums::has_plain_signature))]
@@ -70,7 +70,7 @@ fn function(
     requires { length f.now.variables < 2 ^ 32 }
     ensures { Gets (spec.function earlier.now f.now) result }
 {
-    if !is_name(alloc, &f.name)? || !has_plain_signature(f) {
+    if !is_name(alloc, f.name.as_str())? || !has_plain_signature(f) {
         return Err(SumsFault::Outside);
     }
     let parameters = f.params.len() as u32;

@@ -5,7 +5,6 @@
 mod expressions;
 mod fault;
 mod functions;
-mod names;
 mod statements;
 mod types;
 

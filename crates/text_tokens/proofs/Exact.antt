@@ -12,16 +12,16 @@ use Rattle.text_tokens.proofs.Fronting.{all_front, front_back, back_all}
 use Rattle.text_tokens.proofs.Spellings.{token_starts, found_at, token_of, next_at}
 
 -- one lexeme is cut off
-step : (end m : ℕ) (text rest : List ℕ) (kind : LexemeKind) → next_at text ≡ Some (kind, rest) →
+pub step : (end m : ℕ) (text rest : List ℕ) (kind : LexemeKind) → next_at text ≡ Some (kind, rest) →
     cut end (suc m) text ≡ prepend (lexeme kind (end - length text) (end - length rest) ∷ []) (cut end m (back is_space rest))
 unfolding cut
 step end m [] rest kind h = absurd cc
 step end m (c ∷ cs) rest kind h = rw h refl
 
-back_short : (cs : List ℕ) → length (back is_space cs) ≤ length cs
+pub back_short : (cs : List ℕ) → length (back is_space cs) ≤ length cs
 back_short cs = omega (arith, ap length (front_back is_space cs), length-append (front is_space cs) (back is_space cs))
 
-gap_back : (text : List ℕ) → is_gap text ≡ true → back is_space text ≡ []
+pub gap_back : (text : List ℕ) → is_gap text ≡ true → back is_space text ≡ []
 gap_back text h = ap (back is_space) (sym (append-nil text)) ∙ back_all is_space text [] h refl
 
 pub record Complete (cutting : Lexemes) (ts : List Token) : Type 0 where

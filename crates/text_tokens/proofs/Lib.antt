@@ -1,7 +1,11 @@
 pub mod Fronting
 pub mod Excluding
 pub mod Marking
+pub mod EncodingLemmas
+pub mod NameLemmas
 pub mod Closing
 pub mod Turning
 pub mod Spellings
 pub mod Exact
+pub mod LexingLemmas
+pub mod MarkedNames

@@ -20,9 +20,10 @@ use Rattle.text_tokens.specs.declared.lexeme.LexemeKind.{LexemeKind}
 use Rattle.text_tokens.specs.declared.lexeme.LexemeKind.TheVariants.{Word, Marked, Number, Punct}
 use Rattle.text_tokens.specs.Fronts.{front, back, past, begins_two, close_at}
 use Rattle.text_tokens.specs.Scan.{Next, lexeme_at, other_at, mark_at, marked_at, marked_then, marked_name, spelled_name, name_then, negative_at, either, arrow_at, mark_then, mark_of}
+use Rattle.text_tokens.specs.Lexing.{IsSpelled}
 use Rattle.text_tokens.specs.Stands.{Stands, IsProper, is_plain, is_numeral}
-use Rattle.text_tokens.proofs.Fronting.{front_all, back_all, begins_back, front_back}
-use Rattle.text_tokens.proofs.Excluding.{digit_not_start, digit_not_space, start_not_space}
+use Rattle.text_tokens.proofs.Fronting.{all_front, front_all, back_all, begins_back, front_back}
+use Rattle.text_tokens.proofs.Excluding.{digit_not_start, digit_not_space, digit_not_minus, start_not_space}
 use Rattle.text_tokens.proofs.Marking.{text_name}
 use Rattle.text_tokens.proofs.Closing.{encodes_pass, close_after, Passes}
 
@@ -45,6 +46,10 @@ and_left false b h = h
 pub and_right : (a b : Bool) → (a && b) ≡ true → b ≡ true
 and_right true b h = h
 and_right false b h = absurd cc
+
+pub and_both : (a b : Bool) → a ≡ true → b ≡ true → (a && b) ≡ true
+and_both true b h k = k
+and_both false b h k = absurd cc
 
 pub if_true : {A : Type 0} (b : Bool) (x y : A) → b ≡ true → (if b then x else y) ≡ x
 if_true true x y h = refl
@@ -207,56 +212,52 @@ marked_next : (inner rest : List ℕ) (name : List ℕ) → Passes inner → mar
 unfolding lexeme_at other_at
 marked_next inner rest name h k = rw append_assoc (marked_found inner rest name h k)
 
-pub token_starts : (t : Token) (spelling rest : List ℕ) → IsToken t spelling rest → IsProper t → Starts t spelling rest
-token_starts (word w) s rest h p = record {
-  kind = Word w;
-  next = rw h.0 (word_next w rest p h.1);
-  stands = refl;
-  ink = rw h.0 (word_ink w rest p);
-  long = rw h.0 (word_long w p);
+-- a lexeme that is spelled so is found
+pub record KindStarts (kind : LexemeKind) (spelling rest : List ℕ) : Type 0 where
+  pub next : next_at (spelling ++ rest) ≡ Some (kind, rest)
+  pub ink : begins is_space (spelling ++ rest) ≡ false
+  pub long : 0 < length spelling
+
+pub kind_starts : (kind : LexemeKind) (spelling rest : List ℕ) → IsSpelled kind spelling rest → KindStarts kind spelling rest
+kind_starts (Word w) s rest h = record {
+  next = rw h.1 (word_next w rest h.0 h.2);
+  ink = rw h.1 (word_ink w rest h.0);
+  long = rw h.1 (word_long w h.0);
 }
-token_starts (id n) s rest (inl h) p = record {
-  kind = Word n;
-  next = rw h.same (word_next n rest (bare_plain n h.bare) h.ends);
-  stands = (refl, h.bare);
-  ink = rw h.same (word_ink n rest (bare_plain n h.bare));
-  long = rw h.same (word_long n (bare_plain n h.bare));
-}
-token_starts (id n) s rest (inr h) p =
+kind_starts (Marked n) s rest h =
     let e = sym (text_name h.inner h.utf8) ∙ spelled (chars h.inner) h.identifier h.normal ∙ ap (λ x. Some x) (sym h.is_name) in
     record {
-      kind = Marked n;
       next = rw h.same (marked_next h.inner rest n (inner_passes h.inner h.utf8 h.identifier) e);
-      stands = refl;
       ink = rw h.same refl;
       long = rw h.same (omega arith);
     }
-token_starts (number z) s rest h p = record {
-  kind = Number (signed_decimal z);
-  next = rw h.0 (number_next (signed_decimal z) rest p h.1);
-  stands = refl;
-  ink = rw h.0 (number_ink (signed_decimal z) rest p);
-  long = rw h.0 (number_long (signed_decimal z) p);
+kind_starts (Number d) s rest h = record {
+  next = rw h.1 (number_next d rest h.0 h.2);
+  ink = rw h.1 (number_ink d rest h.0);
+  long = rw h.1 (number_long d h.0);
 }
-token_starts (mark m) s rest h p = record {
-  kind = Punct m;
+kind_starts (Punct m) s rest h = record {
   next = rw h.0 (mark_next m rest h.1);
-  stands = refl;
   ink = rw h.0 (mark_ink m rest);
   long = rw h.0 (mark_long m);
 }
 
--- what was found is spelled so
-abbrev pub IsKind : LexemeKind → List ℕ → List ℕ → Type 0
-IsKind (Word w) s rest = (s ≡ w) × (begins is_word_byte rest ≡ false)
-IsKind (Marked n) s rest = IsMarked n s
-IsKind (Number n) s rest = (s ≡ n) × (begins is_ascii_digit rest ≡ false)
-IsKind (Punct m) s rest = (s ≡ mark_text m) × (goes_on m rest ≡ false)
+starts_as : (kind : LexemeKind) (t : Token) (spelling rest : List ℕ) → Stands kind t → IsSpelled kind spelling rest → Starts t spelling rest
+starts_as kind t s rest h k =
+    let f = kind_starts kind s rest k in record { kind = kind; next = f.next; stands = h; ink = f.ink; long = f.long }
 
+pub token_starts : (t : Token) (spelling rest : List ℕ) → IsToken t spelling rest → IsProper t → Starts t spelling rest
+token_starts (word w) s rest h p = starts_as (Word w) (word w) s rest refl (p, h.0, h.1)
+token_starts (id n) s rest (inl h) p = starts_as (Word n) (id n) s rest (refl, h.bare) (bare_plain n h.bare, h.same, h.ends)
+token_starts (id n) s rest (inr h) p = starts_as (Marked n) (id n) s rest refl h
+token_starts (number z) s rest h p = starts_as (Number (signed_decimal z)) (number z) s rest refl (p, h.0, h.1)
+token_starts (mark m) s rest h p = starts_as (Punct m) (mark m) s rest refl h
+
+-- what was found is spelled so
 pub record Found (kind : LexemeKind) (text rest : List ℕ) : Type 0 where
   pub spelling : List ℕ
   pub split : text ≡ spelling ++ rest
-  pub is : IsKind kind spelling rest
+  pub is : IsSpelled kind spelling rest
   pub long : 0 < length spelling
 
 -- the cases of a test
@@ -264,9 +265,9 @@ by_test : {A : Type 0} {G : Type 0} (b : Bool) (x y z : A) → (if b then x else
 by_test true x y z h f g = f refl h
 by_test false x y z h f g = g refl h
 
-pub token_of : (kind : LexemeKind) (t : Token) (s rest : List ℕ) → IsKind kind s rest → Stands kind t → IsToken t s rest
-token_of (Word w) (word v) s rest h k = (h.0 ∙ sym k, h.1)
-token_of (Word w) (id n) s rest h k = inl (record { same = h.0 ∙ sym k.0; bare = ap is_bare k.0 ∙ k.1; ends = h.1 })
+pub token_of : (kind : LexemeKind) (t : Token) (s rest : List ℕ) → IsSpelled kind s rest → Stands kind t → IsToken t s rest
+token_of (Word w) (word v) s rest h k = (h.1 ∙ sym k, h.2)
+token_of (Word w) (id n) s rest h k = inl (record { same = h.1 ∙ sym k.0; bare = ap is_bare k.0 ∙ k.1; ends = h.2 })
 token_of (Word w) (number z) s rest h k = absurd k
 token_of (Word w) (mark m) s rest h k = absurd k
 token_of (Marked n) (word v) s rest h k = absurd k
@@ -275,7 +276,7 @@ token_of (Marked n) (number z) s rest h k = absurd k
 token_of (Marked n) (mark m) s rest h k = absurd k
 token_of (Number n) (word v) s rest h k = absurd k
 token_of (Number n) (id m) s rest h k = absurd k
-token_of (Number n) (number z) s rest h k = (h.0 ∙ k, h.1)
+token_of (Number n) (number z) s rest h k = (h.1 ∙ k, h.2)
 token_of (Number n) (mark m) s rest h k = absurd k
 token_of (Punct m) (word v) s rest h k = absurd k
 token_of (Punct m) (id n) s rest h k = absurd k
@@ -410,11 +411,18 @@ unfolding marked_at
 marks_found c cs rest kind t u h =
     subst (λ x. Found kind x rest) (sym (λ i. eqb-true c 194 t i ∷ begins_byte 171 cs u i)) (marks_by (close_at (past cs)) (past cs) rest kind (close_split (past cs)) h)
 
+digits_front : (cs : List ℕ) → begins is_ascii_digit cs ≡ true → are_digits (front is_ascii_digit cs) ≡ true
+digits_front [] h = absurd cc
+digits_front (c ∷ cs) h =
+    let e : front is_ascii_digit (c ∷ cs) ≡ c ∷ front is_ascii_digit cs = if_true (is_ascii_digit c) (c ∷ front is_ascii_digit cs) [] h in
+    let a = all_front is_ascii_digit (c ∷ cs) in
+    rw e (rw e at a)
+
 minus_found : (c : ℕ) (cs rest : List ℕ) (kind : LexemeKind) → (c == 45) ≡ true → negative_at cs ≡ Some (kind, rest) → Found kind (c ∷ cs) rest
 minus_found c cs rest kind t h =
     by_test (begins is_ascii_digit cs) (Some (Number (45 ∷ front is_ascii_digit cs), back is_ascii_digit cs)) None (Some (kind, rest)) h
     (λ u e. carry (c ∷ cs) (back is_ascii_digit cs) rest (Number (45 ∷ front is_ascii_digit cs)) kind e
-    (record { spelling = 45 ∷ front is_ascii_digit cs; split = (λ i. eqb-true c 45 t i ∷ sym (front_back is_ascii_digit cs) i); is = (refl, begins_back is_ascii_digit cs); long = omega arith }))
+    (record { spelling = 45 ∷ front is_ascii_digit cs; split = (λ i. eqb-true c 45 t i ∷ sym (front_back is_ascii_digit cs) i); is = (digits_front cs u, refl, begins_back is_ascii_digit cs); long = omega arith }))
     (λ u e. none_some (kind, rest) e)
 
 other_found : (c : ℕ) (cs rest : List ℕ) (kind : LexemeKind) → other_at c cs ≡ Some (kind, rest) → Found kind (c ∷ cs) rest
@@ -427,21 +435,33 @@ other_found c cs rest kind h =
     (λ t e. punct_found c cs rest kind e))
 
 run_found : (p : ℕ → Bool) (make : List ℕ → LexemeKind) (c : ℕ) (cs rest : List ℕ) (kind : LexemeKind) → p c ≡ true →
-    ((s after : List ℕ) → begins p after ≡ false → IsKind (make s) s after) →
+    IsSpelled (make (front p (c ∷ cs))) (front p (c ∷ cs)) (back p (c ∷ cs)) →
     found (make (front p (c ∷ cs))) (back p (c ∷ cs)) ≡ found kind rest → Found kind (c ∷ cs) rest
 run_found p make c cs rest kind t k e =
     carry (c ∷ cs) (back p (c ∷ cs)) rest (make (front p (c ∷ cs))) kind e
-    (record { spelling = front p (c ∷ cs); split = sym (front_back p (c ∷ cs)); is = k (front p (c ∷ cs)) (back p (c ∷ cs)) (begins_back p (c ∷ cs)); long = front_long p c cs t })
+    (record { spelling = front p (c ∷ cs); split = sym (front_back p (c ∷ cs)); is = k; long = front_long p c cs t })
 
 word_byte : (c : ℕ) → is_word_start c ≡ true → is_word_byte c ≡ true
 word_byte c h = rw h refl
+
+plain_front : (c : ℕ) (cs : List ℕ) → is_word_start c ≡ true → is_plain (front is_word_byte (c ∷ cs)) ≡ true
+plain_front c cs h =
+    let e : front is_word_byte (c ∷ cs) ≡ c ∷ front is_word_byte cs = if_true (is_word_byte c) (c ∷ front is_word_byte cs) [] (word_byte c h) in
+    let a = all_front is_word_byte (c ∷ cs) in
+    rw e (and_both (is_word_start c) (list_all is_word_byte (c ∷ front is_word_byte cs)) h (rw e at a))
+
+numeral_front : (c : ℕ) (cs : List ℕ) → is_ascii_digit c ≡ true → is_numeral (front is_ascii_digit (c ∷ cs)) ≡ true
+numeral_front c cs h =
+    let e : front is_ascii_digit (c ∷ cs) ≡ c ∷ front is_ascii_digit cs = if_true (is_ascii_digit c) (c ∷ front is_ascii_digit cs) [] h in
+    let a = all_front is_ascii_digit (c ∷ cs) in
+    rw (e, digit_not_minus c h) (rw e at a)
 
 pub found_at : (c : ℕ) (cs : List ℕ) (kind : LexemeKind) (rest : List ℕ) → lexeme_at c cs ≡ Some (kind, rest) → Found kind (c ∷ cs) rest
 unfolding lexeme_at
 found_at c cs kind rest h =
     let out : Next = Some (kind, rest) in
     by_test (is_word_start c) (Some (Word (front is_word_byte (c ∷ cs)), back is_word_byte (c ∷ cs))) _ out h
-    (λ t e. run_found is_word_byte (λ s. Word s) c cs rest kind (word_byte c t) (λ s after g. (refl, g)) e) (λ t e.
+    (λ t e. run_found is_word_byte (λ s. Word s) c cs rest kind (word_byte c t) (plain_front c cs t, refl, begins_back is_word_byte (c ∷ cs)) e) (λ t e.
     by_test (is_ascii_digit c) (Some (Number (front is_ascii_digit (c ∷ cs)), back is_ascii_digit (c ∷ cs))) (other_at c cs) out e
-    (λ t e. run_found is_ascii_digit (λ s. Number s) c cs rest kind t (λ s after g. (refl, g)) e)
+    (λ t e. run_found is_ascii_digit (λ s. Number s) c cs rest kind t (numeral_front c cs t, refl, begins_back is_ascii_digit (c ∷ cs)) e)
     (λ t e. other_found c cs rest kind e))

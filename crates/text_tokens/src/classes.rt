@@ -1,14 +1,10 @@
 //! Classes of bytes and characters.
 
 ghost use Rattle.std.specs.Prelude.{◌≡◌, ◌==◌, ◌≤◌, length, take, drop};
-ghost use Rattle.std.specs.List.{list_all};
-ghost use Rattle.unicode_ident.specs.Ident.{is_xid_continue as continues};
 ghost use Rattle.std.specs.Char.{is_ascii_digit};
 ghost use Rattle.text_meaning.specs.Names as spec;
 ghost use Rattle.text_meaning.specs.Lexing.{is_space as is_gap_byte};
 ghost use Rattle.text_tokens.specs.Fronts as fronts;
-
-use unicode_ident::{is_xid_continue, is_xid_start};
 
 /// Whether a byte is white space.
 pub(crate) fn is_space(c: u8) -> bool
@@ -65,36 +61,6 @@ pub(crate) fn begins_digit(bytes: &[u8]) -> bool
     match bytes {
         [c, ..] => is_digit(*c),
         [] => false,
-    }
-}
-
-/// Whether an identifier may begin with a character.
-fn starts_identifier(c: char) -> bool
-    ensures { result ≡ spec.starts_identifier c }
-{
-    is_xid_start(c) || c == '_'
-}
-
-/// Whether every character may stand in an identifier.
-fn all_continue(characters: &[char]) -> bool
-    ensures { result ≡ list_all continues characters.now }
-{
-    for c in characters {
-        if !is_xid_continue(*c) {
-            return false;
-        }
-    }
-    true
-}
-
-/// Whether characters are an identifier; `_` alone is none.
-pub fn is_identifier(characters: &[char]) -> bool
-    ensures { result ≡ spec.is_identifier characters.now }
-{
-    match characters {
-        [] => false,
-        ['_'] => false,
-        [first, ..] => starts_identifier(*first) && all_continue(characters),
     }
 }
 

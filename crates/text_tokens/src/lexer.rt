@@ -1,6 +1,8 @@
 //! A text into the tokens that it spells.
 
 ghost use Rattle.std.specs.Prelude.{◌≡◌, ℕ, ◌<◌, ◌^◌, ◌+◌, ◌∷◌, ◌++◌, length, Some, None, IfOk};
+ghost use Rattle.text_tokens.specs.Lexing.{IsLexed, NoOthers, BearsName};
+ghost use Rattle.text_meaning.specs.Lists.{Each};
 ghost use Rattle.text_tokens.specs.Stands.{AreLexemes, HasNoTokens};
 ghost use Rattle.std.specs.String.{string_bytes};
 ghost use Rattle.std.specs.Char.{is_ascii_digit};
@@ -295,12 +297,13 @@ fn span(lo: usize, hi: usize) -> Span
 
 /// The tokens of a text of less than 2^32 bytes as they are spelled, up to the first character at
 /// which none begins. The only error is want of memory.
-
 pub fn lex(alloc: Global, text: &str) -> Result<Lexemes, NoMem>
     requires { length text.now < 2 ^ 32 }
     ensures exact { IfOk result (λ l. l.fault ≡ None → AreLexemes l.list text.now) }
     ensures none { IfOk result (λ l. (l.fault ≡ None → ⊥) → HasNoTokens text.now) }
-    ensures cut { IfOk result (λ l. l ≡ spec.cut_text text.now) }
+    ensures lexed { IfOk result (λ l. IsLexed text.now l.list l.fault) }
+    ensures only { IfOk result (λ l. NoOthers text.now l.list l.fault) }
+    ensures names { IfOk result (λ l. Each (λ x. BearsName x.kind) l.list) }
 {
     Ok(cut(alloc, text)?)
 }

@@ -7,7 +7,6 @@ mod lexeme;
 mod lexer;
 mod marked;
 
-pub use classes::is_identifier;
 pub use lexeme::{Lexeme, LexemeKind, Lexemes};
 pub use lexer::lex;
-pub use marked::{characters_of, normal_of};
+pub use marked::is_name;

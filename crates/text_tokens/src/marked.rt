@@ -1,15 +1,15 @@
 //! Names between `«` and `»`.
 
-ghost use Rattle.std.specs.Prelude.{◌≡◌, IfOk, chars, encode_utf8_all};
-ghost use Rattle.unicode_normalization.specs.Forms.{nfc};
-ghost use Rattle.std.specs.String.{string_bytes};
+ghost use Rattle.std.specs.Prelude.{◌≡◌, IfOk, chars};
+ghost use Rattle.rust_lex.specs.Identifiers as identifiers;
 ghost use Rattle.text_tokens.specs.Fronts as fronts;
+ghost use Rattle.text_tokens.specs.Naming as names;
 ghost use Rattle.text_tokens.specs.Scan as spec;
 
-use crate::classes::{after, begins_two, is_identifier};
+use crate::classes::{after, begins_two};
 use aen_base::{Name, NoMem};
+use rust_lex::{ident_end, name_of};
 use std::alloc::Global;
-use unicode_normalization::slice::extend_nfc;
 
 /// How many bytes stand before the first `»`.
 pub(crate) fn close_at(bytes: &[u8]) -> Option<usize>
@@ -23,48 +23,40 @@ pub(crate) fn close_at(bytes: &[u8]) -> Option<usize>
     None
 }
 
-/// A text of these characters. The only error is want of memory.
-fn text_of(alloc: Global, characters: &[char]) -> Result<String, NoMem>
-    ensures { IfOk result (λ t. string_bytes t ≡ encode_utf8_all characters.now) }
+/// Whether a text is an identifier. It takes no memory.
+fn is_identifier(text: &str) -> bool
+    ensures { result ≡ identifiers.is_identifier text.now }
 {
-    let mut text = String::new(alloc);
-    for c in characters {
-        text.push(*c)?;
+    match ident_end(text, 0) {
+        Some(end) => end == text.len(),
+        None => false,
     }
-    Ok(text)
 }
 
-/// The characters of a text. The only error is want of memory.
-pub fn characters_of(alloc: Global, text: &str) -> Result<Vec<char>, NoMem>
-    ensures { IfOk result (λ v. v.items ≡ chars text.now) }
+/// The name whose spelling is this text: its normal form, where both are identifiers. The only error
+/// is want of memory.
+fn spelled_name(alloc: Global, text: &str) -> Result<Option<Name>, NoMem>
+    ensures { IfOk result (λ o. o ≡ spec.spelled_name (chars text.now)) }
 {
-    let characters: Vec<char> = text.chars().collect(alloc)?;
-    Ok(characters)
-}
-
-/// Characters in normal form. The only error is want of memory.
-pub fn normal_of(alloc: Global, characters: &[char]) -> Result<Vec<char>, NoMem>
-    ensures { IfOk result (λ v. v.items ≡ nfc characters.now) }
-{
-    let mut normal = Vec::new(alloc);
-    extend_nfc(&mut normal, characters)?;
-    Ok(normal)
-}
-
-/// The name whose spelling is these characters: their normal form, where both are identifiers.
-#[tactic(auto, unfolding(crate::specs::Scan::spelled_name))]
-fn spelled_name(alloc: Global, characters: &[char]) -> Result<Option<Name>, NoMem>
-    ensures { IfOk result (λ o. o ≡ spec.spelled_name characters.now) }
-{
-    if !is_identifier(characters) {
+    if !is_identifier(text) {
         return Ok(None);
     }
-    let normal = normal_of(alloc, characters)?;
-    if !is_identifier(normal.as_slice()) {
+    let name = name_of(alloc, text)?;
+    if !is_identifier(name.as_str()) {
         return Ok(None);
     }
-    let name = text_of(alloc, normal.as_slice())?;
-    Ok(Some(Name::new(name)))
+    Ok(Some(name))
+}
+
+/// Whether this is the normal form of an identifier. The only error is want of memory.
+pub fn is_name(alloc: Global, text: &str) -> Result<bool, NoMem>
+    ensures { IfOk result (λ b. b ≡ names.is_name text.now) }
+{
+    if !is_identifier(text) {
+        return Ok(false);
+    }
+    let name = name_of(alloc, text)?;
+    Ok(name.as_str() == text)
 }
 
 /// The name that is spelled between marks. The only error is want of memory.
@@ -75,6 +67,5 @@ pub(crate) fn marked_name(alloc: Global, inner: &[u8]) -> Result<Option<Name>, N
     let Ok(text) = str::from_utf8(inner) else {
         return Ok(None);
     };
-    let characters = characters_of(alloc, text)?;
-    spelled_name(alloc, characters.as_slice())
+    spelled_name(alloc, text)
 }
