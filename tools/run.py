@@ -80,7 +80,7 @@ def run_built(words, shows, folder):
 def run_unproved(words, shows, folder):
     """Runs the program by `rt try`, which proves nothing, and returns its status."""
     say(
-        "the proved program isn't built yet. This answer comes by the unproved one, in about a minute; "
+        "the proved program isn't built yet. This answer comes by the unproved one, in about two minutes; "
         f"./aeneas build makes the proved one, in about {estimate(ROOT)}"
     )
     try:

@@ -8,3 +8,6 @@ pub mod Wants
 pub mod Shape
 pub mod Named
 pub mod Heads
+pub mod OptionLemmas
+pub mod LookupLemmas
+pub mod HeadLemmas

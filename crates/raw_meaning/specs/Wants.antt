@@ -100,9 +100,12 @@ constructor_wants (C.Of ty variant) rest = name ty.text ∷ marks Dot (name vari
 constructor_wants (C.Brk span) rest = says (codes "Exit") (marks Dot (says (codes "brk") rest))
 constructor_wants (C.Ret span) rest = says (codes "Exit") (marks Dot (says (codes "ret") rest))
 
+abbrev pub truth_word : Bool → List ℕ
+truth_word true = codes "true"
+truth_word false = codes "false"
+
 abbrev pub truth_wants : Bool → Wants → Wants
-truth_wants true rest = says (codes "true") rest
-truth_wants false rest = says (codes "false") rest
+truth_wants b rest = says (truth_word b) rest
 
 abbrev mutual
   pub atom_wants : RawAtom → Wants → Wants

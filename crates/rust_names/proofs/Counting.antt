@@ -4,8 +4,8 @@ use Rattle.std.specs.Prelude.{◌||◌, nat_lt}
 use Rattle.rust_ast.specs.declared.program.Item.{Item}
 use Rattle.rust_ast.specs.declared.program.Item.TheVariants.{Function, Struct, Enum, UseMem}
 use Rattle.rust_ast.specs.declared.resolution.Function as resolved
+use Rattle.name_tables.specs.ListLemmas.{drop_at}
 use Rattle.rust_names.specs.Resolution.{count_functions, has_many}
-use Rattle.rust_names.proofs.Walking.{drop_at}
 
 one_more : (x : Item) (xs : List Item) → count_functions (x ∷ xs) ≡ count_functions (x ∷ []) + count_functions xs
 one_more (Function f) xs = omega arith

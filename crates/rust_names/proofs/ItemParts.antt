@@ -1,25 +1,21 @@
 -- What the parts of an item give together.
-use Rattle.std.proofs.Common.{◌≡◌, List, ℕ, Option, refl, sym, ap, subst, ◌∙◌}
-use Rattle.std.specs.Prelude.{Result, Ok, Err}
+use Rattle.std.proofs.Common.{◌≡◌, List, ℕ, Option, sym, ap, subst, ◌∙◌}
+use Rattle.std.specs.Prelude.{Result, Ok}
 use Rattle.aen_base.specs.declared.span.Span.{Span}
 use Rattle.rust_ast.specs.Resolved as r
 use Rattle.rust_ast.specs.Written as w
-use Rattle.rust_ast.specs.declared.ident.Ident.{Ident}
 use Rattle.rust_ast.specs.declared.program.Enum as enums
 use Rattle.rust_ast.specs.declared.program.Function as functions
-use Rattle.rust_ast.specs.declared.program.Param.{Param}
 use Rattle.rust_ast.specs.declared.program.Variant as variants
 use Rattle.rust_ast.specs.declared.resolution.Function as resolved
 use Rattle.rust_ast.specs.declared.resolution.Variable.{Variable}
-use Rattle.rust_names.specs.declared.fault.Stop.{Stop}
-use Rattle.rust_names.specs.declared.tables.Tables.{Tables}
-use Rattle.rust_names.specs.declared.tables.Generics.{Generics}
-use Rattle.rust_names.specs.Gives.{Gives, GivesAs}
-use Rattle.rust_names.specs.Lookups.{and_then}
-use Rattle.rust_names.specs.Scopes.{State}
-use Rattle.rust_names.specs.Tables.{names_of}
-use Rattle.rust_names.specs.Uses.{read_block}
-use Rattle.rust_names.specs.Resolution.{only_parameters, read_variants, enum_variants, function_generics, function_body, function_parts, parts_form, function_of, beginning, read_function}
+use Rattle.name_tables.specs.declared.fault.Stop.{Stop}
+use Rattle.name_tables.specs.declared.tables.Tables.{Tables}
+use Rattle.name_tables.specs.declared.tables.Generics.{Generics}
+use Rattle.name_tables.specs.Gives.{Gives, GivesAs}
+use Rattle.name_tables.specs.Lookups.{and_then}
+use Rattle.name_tables.specs.Tables.{names_of, only_parameters, function_generics}
+use Rattle.rust_names.specs.Resolution.{read_variants, enum_variants, function_parts, parts_form, function_of, read_function}
 
 pub variants_give : (t : Tables) (x : enums.Enum) (g : Generics) (vs : List variants.Variant) (o : Result (List (List ℕ × List (List ℕ × w.Written))) Stop) → g ≡ only_parameters x.params → vs ≡ x.variants →
     Gives (read_variants t g vs) o → Gives (enum_variants t x) o
@@ -31,19 +27,6 @@ variants_give t x g vs o e q h = subst (λ z. Gives z o) (λ i. read_variants t 
 pub parts_give : (t : Tables) (f : functions.Function) (g : Generics) (o : Result ((List w.Written × Option w.Written) × (r.Block × List Variable)) Stop) → g ≡ function_generics f →
     GivesAs parts_form (function_parts t g f) o → GivesAs parts_form (function_parts t (function_generics f) f) o
 parts_give t f g o e h = subst (λ z. GivesAs parts_form (function_parts t z f) o) e h
-
-abbrev body_end : r.Block × State → Result (r.Block × List Variable) Span
-body_end b = Ok (b.0, b.1.variables)
-
-body_at : (t : Tables) (g : Generics) (f : functions.Function) (ps : List Param) (st : State) → st ≡ beginning ps → ps ≡ f.params → function_body t g f ≡ and_then (read_block t g f.body st) body_end
-body_at t g f ps st e q = λ i. and_then (read_block t g f.body (sym (e ∙ ap beginning q) i)) body_end
-
-pub body_fails : (t : Tables) (g : Generics) (f : functions.Function) (ps : List Param) (st : State) (p : Span) → st ≡ beginning ps → ps ≡ f.params → read_block t g f.body st ≡ Err p → function_body t g f ≡ Err p
-body_fails t g f ps st p e q h = body_at t g f ps st e q ∙ ap (λ z. and_then z body_end) h
-
-pub body_gives : (t : Tables) (g : Generics) (f : functions.Function) (ps : List Param) (st after : State) (b : r.Block) → st ≡ beginning ps → ps ≡ f.params → read_block t g f.body st ≡ Ok (b, after) →
-    function_body t g f ≡ Ok (b, after.variables)
-body_gives t g f ps st after b e q h = body_at t g f ps st e q ∙ ap (λ z. and_then z body_end) h
 
 abbrev ending : functions.Function → (List w.Written × w.MaybeWritten) × (r.Block × List Variable) → Result resolved.Function Span
 ending f x = Ok (function_of f x)

@@ -1,11 +1,2 @@
-pub mod Placing
-pub mod Walking
-pub mod TypeLists
-pub mod PatternLists
-pub mod UseLists
-pub mod ScopeTables
-pub mod Entering
-pub mod Repeating
 pub mod Counting
-pub mod Bodies
 pub mod ItemParts

@@ -1,16 +1,3 @@
-pub mod Finding
-pub mod Gives
-pub mod Tables
-pub mod Lookups
-pub mod Twice
-pub mod FirstPlaces
-pub mod Scopes
-pub mod TypeUses
-pub mod PathUses
-pub mod PatternUses
-pub mod Walks
-pub mod Hiding
-pub mod Uses
 pub mod Resolution
 pub mod Naming
 pub mod Answers

@@ -1,6 +1,6 @@
 -- What a program with names resolved has: functions whose names differ, with few variables each
 -- (LANGUAGE.md, "Names").
-use Rattle.std.proofs.Common.{◌≡◌, refl, sym, subst, ap, ◌∙◌, ℕ, suc, ◌<◌, ◌≤◌, Bool, true, false, List, [], ◌∷◌, ◌++◌, length, map, Option, Some, None, Result, Ok, Err, ◌⊎◌, inl, inr, arith}
+use Rattle.std.proofs.Common.{◌≡◌, refl, sym, subst, ap, ◌∙◌, ℕ, ◌≤◌, Bool, true, false, List, [], ◌∷◌, ◌++◌, length, map, Option, Some, None, Result, Ok, Err, ◌⊎◌, inl, inr}
 use Rattle.std.proofs.lemmas.Bool.{ltb-false}
 use Rattle.std.proofs.lemmas.List.{append-nil}
 use Rattle.std.proofs.lemmas.Slice.Eq.{bytes_eq-Decides}
@@ -8,25 +8,22 @@ use Rattle.std.specs.Prelude.{◌&&◌, ◌||◌, if◌then◌else◌, nat_lt, b
 use Rattle.aen_base.specs.declared.span.Span.{Span}
 use Rattle.rust_ast.specs.declared.program.Program.{Program}
 use Rattle.rust_ast.specs.declared.program.Function as functions
-use Rattle.rust_ast.specs.declared.program.Struct as structs
-use Rattle.rust_ast.specs.declared.program.Enum as enums
 use Rattle.rust_ast.specs.declared.program.Item.{Item}
 use Rattle.rust_ast.specs.declared.program.Item.TheVariants.{Function, Struct, Enum, UseMem}
-use Rattle.rust_ast.specs.declared.resolution.Declared.{Declared}
 use Rattle.rust_ast.specs.declared.resolution.Function as resolved
 use Rattle.rust_ast.specs.declared.resolution.Resolved.{Resolved}
-use Rattle.rust_names.specs.declared.entry.Entry.{Entry}
-use Rattle.rust_names.specs.declared.entry.Kind.TheVariants as kind
+use Rattle.name_tables.specs.declared.tables.Tables.{Tables}
+use Rattle.name_tables.specs.declared.tables.ValueNames.{ValueNames}
+use Rattle.name_tables.specs.Finding.{or_else}
+use Rattle.name_tables.specs.Lookups.{and_then}
+use Rattle.aen_base.specs.declared.limits.Which.TheVariants.{Functions, Variables}
+use Rattle.name_tables.specs.Tables.{tables_of, function_generics}
+use Rattle.name_clashes.specs.declared.entry.Entry.{Entry}
+use Rattle.name_clashes.specs.declared.entry.Kind.TheVariants as kind
+use Rattle.name_clashes.specs.Twice.{Pair, with_second, must_differ, first_like, repeated, repeated_parameter, twice_own, twice_inside, own_entry, item_lifetimes, twice_in_item, twice_in_items, with_entries, entry, entries, item_parameters, twice}
 use Rattle.rust_names.specs.declared.fault.NameFault.{NameFault}
 use Rattle.rust_names.specs.declared.fault.NameFault.TheVariants.{Limit}
-use Rattle.aen_base.specs.declared.limits.Which.TheVariants.{Functions, Variables}
-use Rattle.rust_names.specs.declared.tables.Tables.{Tables}
-use Rattle.rust_names.specs.declared.tables.ValueNames.{ValueNames}
-use Rattle.rust_names.specs.Finding.{or_else}
-use Rattle.rust_names.specs.Lookups.{and_then}
-use Rattle.rust_names.specs.Tables.{tables_of}
-use Rattle.rust_names.specs.Twice.{Pair, with_second, must_differ, first_like, repeated, repeated_parameter, twice_own, twice_inside, own_entry, item_lifetimes, twice_in_item, twice_in_items, with_entries, entry, entries, item_parameters, twice}
-use Rattle.rust_names.specs.Resolution.{function_generics, function_parts, function_of, read_function, read_struct, read_enum, read_item, read_items, with_function, with_type, no_items, count_functions, has_many, variables_within, unless_twice, resolution}
+use Rattle.rust_names.specs.Resolution.{function_parts, function_of, read_function, read_struct, read_enum, read_item, read_items, with_function, with_type, no_items, count_functions, has_many, variables_within, unless_twice, resolution}
 
 -- P holds of each item
 abbrev pub Each : {A : Type 0} → (A → Type 0) → List A → Type 0

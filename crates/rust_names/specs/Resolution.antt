@@ -1,11 +1,10 @@
 -- A program with names resolved, or the first fault of its names (LANGUAGE.md, "Names", "Limits").
-use Rattle.std.specs.Prelude.{ℕ, suc, Bool, true, false, ◌||◌, if◌then◌else◌, List, [], ◌∷◌, ◌++◌, length, map, Option, Some, None, Result, Ok, Err, nat_lt, decimal}
+use Rattle.std.specs.Prelude.{ℕ, suc, Bool, true, false, ◌||◌, if◌then◌else◌, List, [], ◌∷◌, ◌++◌, length, Option, Some, None, Result, Ok, Err, nat_lt, decimal}
 use Rattle.aen_base.specs.declared.span.Span.{Span}
 use Rattle.aen_base.specs.declared.limits.Which.TheVariants.{Functions, Variables}
 use Rattle.rust_ast.specs.SourceTypes as s
 use Rattle.rust_ast.specs.Written as w
 use Rattle.rust_ast.specs.Resolved as r
-use Rattle.rust_ast.specs.declared.ident.Ident.{Ident}
 use Rattle.rust_ast.specs.declared.program.Program.{Program}
 use Rattle.rust_ast.specs.declared.program.Param.{Param}
 use Rattle.rust_ast.specs.declared.program.Variant as variants
@@ -20,20 +19,16 @@ use Rattle.rust_ast.specs.declared.resolution.Resolved.{Resolved}
 use Rattle.rust_ast.specs.declared.resolution.Declared.{Declared}
 use Rattle.rust_ast.specs.declared.resolution.Function as resolved
 use Rattle.rust_ast.specs.declared.resolution.Variable.{Variable}
+use Rattle.name_tables.specs.declared.tables.Tables.{Tables}
+use Rattle.name_tables.specs.declared.tables.Generics.{Generics}
+use Rattle.name_tables.specs.Lookups.{and_then}
+use Rattle.name_tables.specs.Tables.{names_of, tables_of, only_parameters, function_generics}
+use Rattle.name_clashes.specs.Twice.{Pair, twice}
+use Rattle.name_uses.specs.TypeUses.{read_type, read_maybe_type}
+use Rattle.name_uses.specs.Walks.{each, each_from}
+use Rattle.name_uses.specs.FunctionBodies.{function_body}
 use Rattle.rust_names.specs.declared.fault.NameFault.{NameFault}
 use Rattle.rust_names.specs.declared.fault.NameFault.TheVariants.{Unknown, Twice, Limit}
-use Rattle.rust_names.specs.declared.tables.Tables.{Tables}
-use Rattle.rust_names.specs.declared.tables.Generics.{Generics}
-use Rattle.rust_names.specs.Lookups.{and_then}
-use Rattle.rust_names.specs.Tables.{names_of, tables_of}
-use Rattle.rust_names.specs.Scopes.{State, enter}
-use Rattle.rust_names.specs.TypeUses.{read_type, read_maybe_type}
-use Rattle.rust_names.specs.Twice.{Pair, twice}
-use Rattle.rust_names.specs.Walks.{each, each_from}
-use Rattle.rust_names.specs.Uses.{read_block}
-
-abbrev pub only_parameters : List Ident → Generics
-only_parameters xs = record { lifetimes = []; type_params = names_of xs }
 
 -- ---- declared types
 
@@ -84,19 +79,6 @@ param_type t g x = read_type t g x.ty
 abbrev pub read_params : Tables → Generics → List Param → Result (List w.Written) Span
 read_params t g xs = each (param_type t g) xs
 
--- the parameters are the first variables, and in scope
-abbrev pub param_variable : Param → Variable
-param_variable x = record { name = x.name.name; span = x.name.span; mutable = x.mutable; late = false }
-
-abbrev pub param_variables : List Param → List Variable
-param_variables xs = map param_variable xs
-
-abbrev pub beginning : List Param → State
-beginning xs = enter 0 (length (param_variables xs)) (record { scope = []; variables = param_variables xs; loops = 0 })
-
-abbrev pub function_generics : functions.Function → Generics
-function_generics f = record { lifetimes = names_of f.lifetimes; type_params = names_of f.type_params }
-
 -- the types of the parameters and of the result
 abbrev pub function_types : Tables → Generics → functions.Function → Result (List w.Written × w.MaybeWritten) Span
 function_types t g f =
@@ -106,10 +88,6 @@ function_types t g f =
 -- as code has them
 abbrev pub types_form : List w.Written × Option w.Written → List w.Written × w.MaybeWritten
 types_form x = (x.0, w.maybewritten x.1)
-
--- the body, with all variables
-abbrev pub function_body : Tables → Generics → functions.Function → Result (r.Block × List Variable) Span
-function_body t g f = and_then (read_block t g f.body (beginning f.params)) (λ b. Ok (b.0, b.1.variables))
 
 -- the types, then the body
 abbrev pub function_parts : Tables → Generics → functions.Function → Result ((List w.Written × w.MaybeWritten) × (r.Block × List Variable)) Span

@@ -1,45 +1,19 @@
 //! Items with names resolved.
 
 ghost use Rattle.std.specs.Prelude.{◌≡◌, decimal, IfOk};
-ghost use Rattle.rust_names.specs.Gives.{Gives, GivesAs};
+ghost use Rattle.name_tables.specs.Gives.{Gives, GivesAs};
+ghost use Rattle.name_tables.specs.Tables as declared;
 ghost use Rattle.rust_names.specs.Resolution as spec;
-ghost use Rattle.rust_names.specs.Tables as declared;
 
-use crate::by_name::ByName;
-use crate::fault::Stop;
-use crate::gathering::names_of;
-use crate::scope::Scope;
-use crate::state::State;
-use crate::tables::{Generics, Tables};
-use crate::type_uses::{resolve_maybe_type, resolve_type};
-use crate::uses::resolve_block;
 use aen_base::{List, Name, NoMem, Span};
+use name_tables::{Generics, Stop, Tables, function_generics, names_of, only_parameters};
+use name_uses::{resolve_body, resolve_maybe_type, resolve_type};
 use rust_ast::program::{self, Enum, Fields, Item, Param, Struct, Variant};
 use rust_ast::resolution::{Declared, Function, Resolved, Variable};
 use rust_ast::resolved::Block;
+use rust_ast::source_types;
 use rust_ast::written::Written;
-use rust_ast::{Ident, source_types};
 use std::alloc::Global;
-
-/// The type parameters of a declared type, which has no lifetimes.
-fn only_parameters(alloc: Global, params: &[Ident]) -> Result<Generics, NoMem>
-    ensures { IfOk result (λ g. g ≡ spec.only_parameters params.now) }
-{
-    Ok(Generics {
-        lifetimes: ByName::new(alloc, List::new(alloc))?,
-        type_params: ByName::new(alloc, names_of(alloc, params)?)?,
-    })
-}
-
-/// The lifetimes and type parameters of a function.
-fn function_generics(alloc: Global, f: &program::Function) -> Result<Generics, NoMem>
-    ensures { IfOk result (λ g. g ≡ spec.function_generics f.now) }
-{
-    Ok(Generics {
-        lifetimes: ByName::new(alloc, names_of(alloc, f.lifetimes.as_slice())?)?,
-        type_params: ByName::new(alloc, names_of(alloc, f.type_params.as_slice())?)?,
-    })
-}
 
 /// A field without a name: it has its place as its name.
 fn placed_field(
@@ -233,35 +207,6 @@ fn param_types(
     Ok(done)
 }
 
-/// The variables that parameters are.
-fn param_variables(alloc: Global, params: &[Param]) -> Result<List<Variable>, NoMem>
-    ensures { IfOk result (λ vs. vs ≡ spec.param_variables params.now) }
-{
-    let mut variables = List::new(alloc);
-    for i in 0..params.len() {
-        variables.push(Variable {
-            name: params[i].name.name.try_clone(alloc)?,
-            span: params[i].name.span,
-            mutable: params[i].mutable,
-            late: false,
-        })?;
-    }
-    Ok(variables)
-}
-
-/// What is known where a body begins: the parameters are in scope.
-fn beginning(alloc: Global, params: &[Param]) -> Result<State, NoMem>
-    ensures { IfOk result (λ st. st ≡ spec.beginning params.now) }
-{
-    let state = State {
-        scope: Scope::new(alloc),
-        variables: param_variables(alloc, params)?,
-        loops: 0,
-    };
-    let count = state.variables.len();
-    state.enter(alloc, 0, count)
-}
-
 /// The types of a function's parameters and of its result.
 fn function_types(
     alloc: Global,
@@ -276,20 +221,6 @@ fn function_types(
     Ok((params, result))
 }
 
-/// The body of a function, with all its variables.
-fn function_body(
-    alloc: Global,
-    tables: &Tables,
-    generics: &Generics,
-    f: &program::Function,
-) -> Result<(Block, List<Variable>), Stop>
-    ensures { Gives (spec.function_body tables.now generics.now f.now) result }
-{
-    let start = beginning(alloc, f.params.as_slice())?;
-    let (body, after) = resolve_block(alloc, tables, generics, &f.body, start)?;
-    Ok((body, after.into_variables()))
-}
-
 /// The types of a function, and its body.
 fn typed_body(
     alloc: Global,
@@ -300,7 +231,7 @@ fn typed_body(
     ensures { GivesAs spec.parts_form (spec.function_parts tables.now generics.now f.now) result }
 {
     let types = function_types(alloc, tables, generics, f)?;
-    let body = function_body(alloc, tables, generics, f)?;
+    let body = resolve_body(alloc, tables, generics, f)?;
     Ok((types, body))
 }
 
@@ -310,7 +241,7 @@ fn function_parts(
     tables: &Tables,
     f: &program::Function,
 ) -> Result<((List<Written>, Option<Written>), (Block, List<Variable>)), Stop>
-    ensures { GivesAs spec.parts_form (spec.function_parts tables.now (spec.function_generics f.now) f.now) result }
+    ensures { GivesAs spec.parts_form (spec.function_parts tables.now (declared.function_generics f.now) f.now) result }
 {
     let generics = function_generics(alloc, f)?;
     typed_body(alloc, tables, &generics, f)

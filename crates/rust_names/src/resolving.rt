@@ -4,11 +4,11 @@ ghost use Rattle.std.specs.Prelude.{◌≡◌, [], ◌∷◌, ◌≤◌, ◌||�
 ghost use Rattle.rust_names.specs.Answers.{Answers};
 ghost use Rattle.rust_names.specs.Resolution as spec;
 
-use crate::fault::{NameFault, Stop};
-use crate::gathering::tables_of;
+use crate::fault::NameFault;
 use crate::items::resolve_items;
-use crate::twice::twice_in_items;
 use aen_base::Which;
+use name_clashes::twice_in_items;
+use name_tables::{Stop, tables_of};
 use rust_ast::Program;
 use rust_ast::program::Item;
 use rust_ast::resolution::{Function, Resolved};
@@ -98,7 +98,7 @@ fn within_limit(resolved: Resolved) -> Result<Resolved, NameFault>
 /// earlier one declares, behind the first such place. Else `Unknown` at the first use of what is
 /// declared nowhere. Else `Limit` where a function has too many variables. `Memory` may come at any
 /// program.
-#[tactic(auto, unfolding(crate::specs::Resolution::resolution, crate::specs::Twice::twice))]
+#[tactic(auto, unfolding(crate::specs::Resolution::resolution, name_clashes::specs::Twice::twice))]
 pub fn resolve(alloc: Global, program: &Program) -> Result<Resolved, NameFault>
     ensures { Answers (spec.resolution program.now) result }
 {

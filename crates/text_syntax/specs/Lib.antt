@@ -1,2 +1,4 @@
 pub mod Classing
+pub mod Among
+pub mod Kinds
 pub mod Standing

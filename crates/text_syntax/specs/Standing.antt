@@ -1,132 +1,76 @@
--- What a lexeme of a class is: its word, its mark, an id, a variable, a number (TEXT.md, "Tokens", "Names").
-use Rattle.std.specs.Prelude.{◌≡◌, refl, ℕ, Bool, true, false, ◌&&◌, ◌||◌, not, if◌then◌else◌, List, [], ◌∷◌, Option, Some, None, codes, bytes_eq}
-use Rattle.std.specs.List.{list_any, list_all}
-use Rattle.std.specs.Cmp.Lexicographic.{bytes_decides}
+-- What a lexeme is that a token of the grammar takes: its word, its mark, an id, digits (TEXT.md, "Tokens", "Names").
+use Rattle.std.specs.Prelude.{◌≡◌, refl, ℕ, Bool, true, false, not, ◌&&◌, ◌||◌, if◌then◌else◌, List, [], ◌∷◌, Option, Some, None, is_some, codes, bytes_eq, pos}
+use Rattle.std.specs.Fmt.{digits}
+use Rattle.std.specs.List.{list_all}
 use Rattle.std.proofs.Common.{ap, sym, ◌∙◌, subst}
-use denote.Enum.Bare.{sameb, same_true, true_same}
 use Rattle.text_meaning.specs.declared.mark.Mark.{Mark}
 use Rattle.text_meaning.specs.declared.mark.Mark.TheVariants as M
 use Rattle.text_meaning.specs.Names.{is_bare, is_variable}
-use Rattle.text_meaning.specs.Tokens.{id}
+use Rattle.text_meaning.specs.Tokens.{word, id, number, mark}
 use Rattle.text_tokens.specs.Stands.{Stands}
 use Rattle.text_tokens.specs.declared.lexeme.LexemeKind.{LexemeKind}
 use Rattle.text_tokens.specs.declared.lexeme.LexemeKind.TheVariants.{Word, Marked, Number, Punct}
-use Rattle.text_table.specs.contracts.class.Class.{the_type}
 use Rattle.text_table.specs.declared.class.Class.{Class}
 use Rattle.text_table.specs.declared.class.Class.TheVariants as C
+use Rattle.text_table.specs.declared.terminal.Terminal.{Terminal}
 use Rattle.text_table.specs.declared.terminal.Terminal.TheVariants as T
-use Rattle.text_table.specs.Classes.{spelling, names}
+use Rattle.text_table.specs.Classes.{classes, spelling, names}
 use Rattle.text_table.specs.Lexemes.{has_class}
 use Rattle.text_table.specs.Spelled.{class_among, class_named}
-use Rattle.text_syntax.specs.Classing.{class_of, class_of_word, class_of_other, class_of_name, class_of_number, class_of_mark, own_or_other, is_numbered, text_of}
-
-same_bytes : (a b : List ℕ) → bytes_eq a b ≡ true → a ≡ b
-same_bytes a b h = (bytes_decides a b).0 h
+use Rattle.text_syntax.specs.Among.{is_one_of, each_one, none_of, only_class, implied}
+use Rattle.text_syntax.specs.Classing.{class_of, class_of_word, class_of_other, class_of_number, class_of_mark, own_or_other, is_numbered, text_of}
+use Rattle.text_syntax.specs.Kinds.{among, other_classes, other_class, excluded, same_bytes}
 
 -- ---- words
 
-among_by : (b : Bool) (w : List ℕ) (c d : Class) (cs : List Class) → bytes_eq w (spelling c) ≡ b → (class_among w cs ≡ Some d → w ≡ spelling d) →
-    (if b then Some c else class_among w cs) ≡ Some d → w ≡ spelling d
-among_by true w c d cs e later h = let s : c ≡ d = cc in subst (λ (x : Class). w ≡ spelling x) s (same_bytes w (spelling c) e)
-among_by false w c d cs e later h = later h
+-- a class of one word
+abbrev pub is_name : Class → Bool
+is_name c = is_one_of c names
 
-among : (w : List ℕ) (cs : List Class) (d : Class) → class_among w cs ≡ Some d → w ≡ spelling d
-among w [] d h = absurd cc
-among w (c ∷ cs) d h = among_by (bytes_eq w (spelling c)) w c d cs refl (λ g. among w cs d g) h
+spelled_by : (o : Option Class) (w : List ℕ) → class_among w names ≡ o → is_name (own_or_other o w) ≡ true → w ≡ spelling (own_or_other o w)
+spelled_by (Some d) w e h = (among w names d e).0
+spelled_by None w e h = absurd (none_of is_name other_classes (class_of_other w) refl (other_class w) h)
 
--- whether a class is that of one word
-abbrev pub has_word : Class → Bool
-has_word c = list_any (sameb the_type c) names
+-- a lexeme of the class of a word is this word
+pub is_word : (k : LexemeKind) → is_name (class_of k) ≡ true → k ≡ Word (spelling (class_of k))
+is_word (Word w) h = ap (λ (x : List ℕ). Word x) (spelled_by (class_named w) w refl h)
+is_word (Marked n) h = absurd (excluded is_name (Marked n) refl h)
+is_word (Number s) h = absurd (excluded is_name (Number s) refl h)
+is_word (Punct m) h = absurd (excluded is_name (Punct m) refl h)
 
-other_by : (a b c d : Bool) → has_word (if a then (if b then C.LoopNumber else (if c then C.BackNumber else C.Other)) else (if d then C.Variable else C.Excluded)) ≡ false
-other_by true true c d = refl
-other_by true false true d = refl
-other_by true false false d = refl
-other_by false b c true = refl
-other_by false b c false = refl
+-- what a token takes whose classes are of words
+pub token_word : (t : Terminal) (k : LexemeKind) → list_all is_name (classes t) ≡ true → has_class t (class_of k) ≡ true → k ≡ Word (spelling (class_of k))
+token_word t k a h = is_word k (each_one is_name (classes t) (class_of k) a h)
 
-other_has_none : (w : List ℕ) → has_word (class_of_other w) ≡ false
-other_has_none w = other_by (is_bare w) (is_numbered (codes "loop") w) (is_numbered (codes "back") w) (is_variable w)
+stands_itself : (k : LexemeKind) (w : List ℕ) → k ≡ Word w → Stands k (word w)
+stands_itself k w e = subst (λ (x : LexemeKind). Stands x (word w)) (sym e) refl
 
-false_true : false ≡ true → ⊥
-false_true h = cc
+pub word_stands : (t : Terminal) (k : LexemeKind) → list_all is_name (classes t) ≡ true → has_class t (class_of k) ≡ true → Stands k (word (spelling (class_of k)))
+word_stands t k a h = stands_itself k (spelling (class_of k)) (token_word t k a h)
 
-has_none : (d c : Class) → d ≡ c → has_word d ≡ false → has_word c ≡ true → ⊥
-has_none d c e h g = false_true (sym h ∙ ap has_word e ∙ g)
+-- what a token takes that has one class
+pub one_word_stands : (c : Class) (k : LexemeKind) → is_name c ≡ true → is_one_of (class_of k) (c ∷ []) ≡ true → Stands k (word (spelling c))
+one_word_stands c k a h =
+    let e = only_class (class_of k) c h in
+    subst (λ (x : Class). Stands k (word (spelling x))) e (stands_itself k (spelling (class_of k)) (is_word k (ap is_name e ∙ a)))
 
-word_by : (o : Option Class) (w : List ℕ) (c : Class) → class_among w names ≡ o → own_or_other o w ≡ c → has_word c ≡ true → w ≡ spelling c
-word_by (Some d) w c e h own = subst (λ (x : Class). w ≡ spelling x) h (among w names d e)
-word_by None w c e h own = absurd (has_none (class_of_other w) c h (other_has_none w) own)
+-- ---- words with a number
 
-number_by : (a b : Bool) → has_word (if a then C.Zero else (if b then C.One else C.Digits)) ≡ false
-number_by true b = refl
-number_by false true = refl
-number_by false false = refl
+-- a class that words alone have
+abbrev pub is_of_words : Class → Bool
+is_of_words c = is_name c || is_one_of c (C.LoopNumber ∷ C.BackNumber ∷ C.Variable ∷ C.Excluded ∷ [])
 
-mark_has_none : (m : Mark) → has_word (class_of_mark m) ≡ false
-mark_has_none M.Open = refl
-mark_has_none M.Close = refl
-mark_has_none M.Unit = refl
-mark_has_none M.OpenBrace = refl
-mark_has_none M.CloseBrace = refl
-mark_has_none M.Colon = refl
-mark_has_none M.Becomes = refl
-mark_has_none M.Comma = refl
-mark_has_none M.Semicolon = refl
-mark_has_none M.Dot = refl
-mark_has_none M.Hash = refl
-mark_has_none M.Bar = refl
-mark_has_none M.Gives = refl
-mark_has_none M.Plus = refl
-mark_has_none M.To = refl
-mark_has_none M.From = refl
-mark_has_none M.Times = refl
+some_word : (k : LexemeKind) → is_of_words (class_of k) ≡ true → k ≡ Word (text_of k)
+some_word (Word w) h = refl
+some_word (Marked n) h = absurd (excluded is_of_words (Marked n) refl h)
+some_word (Number s) h = absurd (excluded is_of_words (Number s) refl h)
+some_word (Punct m) h = absurd (excluded is_of_words (Punct m) refl h)
 
--- a lexeme of a class that is one word's is this word
-pub is_word : (k : LexemeKind) (c : Class) → class_of k ≡ c → has_word c ≡ true → k ≡ Word (spelling c)
-is_word (Word w) c h own = ap (λ (x : List ℕ). Word x) (word_by (class_named w) w c refl h own)
-is_word (Marked n) c h own = absurd (has_none C.Other c h refl own)
-is_word (Number s) c h own = absurd (has_none (class_of_number s) c h (number_by (bytes_eq s (codes "0")) (bytes_eq s (codes "1"))) own)
-is_word (Punct m) c h own = absurd (has_none (class_of_mark m) c h (mark_has_none m) own)
+-- what a token takes that is taken by words alone
+pub token_some_word : (t : Terminal) (k : LexemeKind) → list_all is_of_words (classes t) ≡ true → has_class t (class_of k) ≡ true → k ≡ Word (text_of k)
+token_some_word t k a h = some_word k (each_one is_of_words (classes t) (class_of k) a h)
 
--- ---- tokens that are sets of classes
-
-either_left : (a b : Bool) → a ≡ true → a || b ≡ true
-either_left true b h = refl
-either_left false b h = absurd cc
-
-either_right : (a b : Bool) → b ≡ true → a || b ≡ true
-either_right true b h = refl
-either_right false b h = h
-
-and_left : (a b : Bool) → a && b ≡ true → a ≡ true
-and_left true b h = refl
-and_left false b h = absurd cc
-
-and_right : (a b : Bool) → a && b ≡ true → b ≡ true
-and_right true b h = h
-and_right false b h = absurd cc
-
--- a class that a word has is among these
-among_one : (b : Bool) (w : List ℕ) (c d : Class) (cs : List Class) → bytes_eq w (spelling c) ≡ b → (class_among w cs ≡ Some d → list_any (sameb the_type d) cs ≡ true) →
-    (if b then Some c else class_among w cs) ≡ Some d → sameb the_type d c || list_any (sameb the_type d) cs ≡ true
-among_one true w c d cs e later h = let s : d ≡ c = cc in either_left (sameb the_type d c) (list_any (sameb the_type d) cs) (true_same the_type d c s)
-among_one false w c d cs e later h = either_right (sameb the_type d c) (list_any (sameb the_type d) cs) (later h)
-
-is_among : (w : List ℕ) (cs : List Class) (d : Class) → class_among w cs ≡ Some d → list_any (sameb the_type d) cs ≡ true
-is_among w [] d h = absurd cc
-is_among w (c ∷ cs) d h = among_one (bytes_eq w (spelling c)) w c d cs refl (λ g. is_among w cs d g) h
-
--- what holds of each of these classes holds of one among them
-each_by : (b : Bool) (test : Class → Bool) (d c : Class) (cs : List Class) → sameb the_type d c ≡ b → (list_any (sameb the_type d) cs ≡ true → test d ≡ true) →
-    test c ≡ true → b || list_any (sameb the_type d) cs ≡ true → test d ≡ true
-each_by true test d c cs e later t h = ap test (same_true the_type tt d c e) ∙ t
-each_by false test d c cs e later t h = later h
-
-each_one : (test : Class → Bool) (cs : List Class) (d : Class) → list_all test cs ≡ true → list_any (sameb the_type d) cs ≡ true → test d ≡ true
-each_one test [] d a h = absurd cc
-each_one test (c ∷ cs) d a h =
-    each_by (sameb the_type d c) test d c cs refl (λ g. each_one test cs d (and_right (test c) (list_all test cs) a) g) (and_left (test c) (list_all test cs) a) h
+-- ---- ids
 
 -- a token's classes with a word are those of bare words
 abbrev bare_if_named : Class → Bool
@@ -135,67 +79,117 @@ bare_if_named c = not (has_class T.Name c) || is_bare (spelling c)
 names_are_bare : list_all bare_if_named names ≡ true
 names_are_bare = refl
 
--- no word's class is that of a number
-abbrev is_no_number : Class → Bool
-is_no_number c = not (has_class T.Number c)
-
-no_words_are_numbers : list_all is_no_number names ≡ true
-no_words_are_numbers = refl
-
-implied : (a b : Bool) → not a || b ≡ true → a ≡ true → b ≡ true
-implied true b h g = h
-implied false b h g = absurd cc
-
-refuted : (a : Bool) → not a ≡ true → a ≡ true → ⊥
-refuted true h g = cc
-refuted false h g = cc
-
--- an id
-name_of_other : (a b c d : Bool) → has_class T.Name (if a then (if b then C.LoopNumber else (if c then C.BackNumber else C.Other)) else (if d then C.Variable else C.Excluded)) ≡ true → a ≡ true
+name_of_other : (a b c d : Bool) →
+    has_class T.Name (if a then (if b then C.LoopNumber else (if c then C.BackNumber else C.Other)) else (if d then C.Variable else C.Excluded)) ≡ true → a ≡ true
 name_of_other true b c d h = refl
 name_of_other false b c true h = absurd cc
 name_of_other false b c false h = absurd cc
 
 name_by : (o : Option Class) (w : List ℕ) → class_among w names ≡ o → has_class T.Name (own_or_other o w) ≡ true → is_bare w ≡ true
 name_by (Some d) w e h =
-    subst (λ (x : List ℕ). is_bare x ≡ true) (sym (among w names d e))
-    (implied (has_class T.Name d) (is_bare (spelling d)) (each_one bare_if_named names d names_are_bare (is_among w names d e)) h)
+    let r = among w names d e in
+    subst (λ (x : List ℕ). is_bare x ≡ true) (sym r.0) (implied (has_class T.Name d) (is_bare (spelling d)) (each_one bare_if_named names d names_are_bare r.1) h)
 name_by None w e h = name_of_other (is_bare w) (is_numbered (codes "loop") w) (is_numbered (codes "back") w) (is_variable w) h
-
-number_no_name : (a b : Bool) → has_class T.Name (if a then C.Zero else (if b then C.One else C.Digits)) ≡ true → ⊥
-number_no_name true b h = cc
-number_no_name false true h = cc
-number_no_name false false h = cc
-
-mark_no_name : (m : Mark) → has_class T.Name (class_of_mark m) ≡ true → ⊥
-mark_no_name M.Open h = cc
-mark_no_name m h = cc
 
 -- what `Name` takes is an id of its text
 pub is_id : (k : LexemeKind) → has_class T.Name (class_of k) ≡ true → Stands k (id (text_of k))
 is_id (Word w) h = (refl, name_by (class_named w) w refl h)
 is_id (Marked n) h = refl
-is_id (Number s) h = absurd (number_no_name (bytes_eq s (codes "0")) (bytes_eq s (codes "1")) h)
-is_id (Punct m) h = absurd (mark_no_name m h)
+is_id (Number s) h = absurd (excluded (has_class T.Name) (Number s) refl h)
+is_id (Punct m) h = absurd (excluded (has_class T.Name) (Punct m) refl h)
 
-other_no_number : (a b c d : Bool) → has_class T.Number (if a then (if b then C.LoopNumber else (if c then C.BackNumber else C.Other)) else (if d then C.Variable else C.Excluded)) ≡ true → ⊥
-other_no_number true true c d h = cc
-other_no_number true false true d h = cc
-other_no_number true false false d h = cc
-other_no_number false b c true h = cc
-other_no_number false b c false h = cc
-
-number_by_word : (o : Option Class) (w : List ℕ) → class_among w names ≡ o → has_class T.Number (own_or_other o w) ≡ true → ⊥
-number_by_word (Some d) w e h = refuted (has_class T.Number d) (each_one is_no_number names d no_words_are_numbers (is_among w names d e)) h
-number_by_word None w e h = other_no_number (is_bare w) (is_numbered (codes "loop") w) (is_numbered (codes "back") w) (is_variable w) h
-
-mark_no_number : (m : Mark) → has_class T.Number (class_of_mark m) ≡ true → ⊥
-mark_no_number M.Open h = cc
-mark_no_number m h = cc
+-- ---- numbers
 
 -- what `Number` takes are digits
 pub is_digits : (k : LexemeKind) → has_class T.Number (class_of k) ≡ true → k ≡ Number (text_of k)
-is_digits (Word w) h = absurd (number_by_word (class_named w) w refl h)
-is_digits (Marked n) h = absurd cc
+is_digits (Word w) h = absurd (excluded (has_class T.Number) (Word w) refl h)
+is_digits (Marked n) h = absurd (excluded (has_class T.Number) (Marked n) refl h)
 is_digits (Number s) h = refl
-is_digits (Punct m) h = absurd (mark_no_number m h)
+is_digits (Punct m) h = absurd (excluded (has_class T.Number) (Punct m) refl h)
+
+zero_by : (a b : Bool) (s : List ℕ) → bytes_eq s (codes "0") ≡ a → has_class T.Zero (if a then C.Zero else (if b then C.One else C.Digits)) ≡ true → s ≡ codes "0"
+zero_by true b s e h = same_bytes s (codes "0") e
+zero_by false true s e h = absurd cc
+zero_by false false s e h = absurd cc
+
+one_by : (a b : Bool) (s : List ℕ) → bytes_eq s (codes "1") ≡ b → has_class T.One (if a then C.Zero else (if b then C.One else C.Digits)) ≡ true → s ≡ codes "1"
+one_by true b s e h = absurd cc
+one_by false true s e h = same_bytes s (codes "1") e
+one_by false false s e h = absurd cc
+
+-- what `0` and `1` take are these numbers
+pub zero_stands : (k : LexemeKind) → has_class T.Zero (class_of k) ≡ true → Stands k (number (pos 0))
+unfolding digits
+zero_stands (Word w) h = absurd (excluded (has_class T.Zero) (Word w) refl h)
+zero_stands (Marked n) h = absurd (excluded (has_class T.Zero) (Marked n) refl h)
+zero_stands (Number s) h = zero_by (bytes_eq s (codes "0")) (bytes_eq s (codes "1")) s refl h
+zero_stands (Punct m) h = absurd (excluded (has_class T.Zero) (Punct m) refl h)
+
+pub one_stands : (k : LexemeKind) → has_class T.One (class_of k) ≡ true → Stands k (number (pos 1))
+unfolding digits
+one_stands (Word w) h = absurd (excluded (has_class T.One) (Word w) refl h)
+one_stands (Marked n) h = absurd (excluded (has_class T.One) (Marked n) refl h)
+one_stands (Number s) h = one_by (bytes_eq s (codes "0")) (bytes_eq s (codes "1")) s refl h
+one_stands (Punct m) h = absurd (excluded (has_class T.One) (Punct m) refl h)
+
+-- ---- marks
+
+-- the mark of a class
+abbrev pub mark_of : Class → Option Mark
+mark_of C.OpenBracket = Some M.Open
+mark_of C.CloseBracket = Some M.Close
+mark_of C.UnitValue = Some M.Unit
+mark_of C.OpenBrace = Some M.OpenBrace
+mark_of C.CloseBrace = Some M.CloseBrace
+mark_of C.Colon = Some M.Colon
+mark_of C.Becomes = Some M.Becomes
+mark_of C.Comma = Some M.Comma
+mark_of C.Semicolon = Some M.Semicolon
+mark_of C.Dot = Some M.Dot
+mark_of C.Hash = Some M.Hash
+mark_of C.Bar = Some M.Bar
+mark_of C.Gives = Some M.Gives
+mark_of C.Plus = Some M.Plus
+mark_of C.To = Some M.To
+mark_of C.From = Some M.From
+mark_of C.Times = Some M.Times
+mark_of c = None
+
+same_mark : (m : Mark) → mark_of (class_of_mark m) ≡ Some m
+same_mark M.Open = refl
+same_mark M.Close = refl
+same_mark M.Unit = refl
+same_mark M.OpenBrace = refl
+same_mark M.CloseBrace = refl
+same_mark M.Colon = refl
+same_mark M.Becomes = refl
+same_mark M.Comma = refl
+same_mark M.Semicolon = refl
+same_mark M.Dot = refl
+same_mark M.Hash = refl
+same_mark M.Bar = refl
+same_mark M.Gives = refl
+same_mark M.Plus = refl
+same_mark M.To = refl
+same_mark M.From = refl
+same_mark M.Times = refl
+
+abbrev has_mark : Class → Bool
+has_mark c = is_some (mark_of c)
+
+mark_there : (c : Class) (m : Mark) → mark_of c ≡ Some m → has_mark c ≡ true
+mark_there c m h = ap is_some h
+
+mark_by : (m n : Mark) → mark_of (class_of_mark m) ≡ Some n → n ≡ m
+mark_by m n h = let e : Some n ≡ Some m = sym h ∙ same_mark m in cc
+
+-- a lexeme of the class of a mark is this mark
+pub is_mark : (k : LexemeKind) (m : Mark) → mark_of (class_of k) ≡ Some m → Stands k (mark m)
+is_mark (Word w) m h = absurd (excluded has_mark (Word w) refl (mark_there (class_of_word w) m h))
+is_mark (Marked n) m h = absurd cc
+is_mark (Number s) m h = absurd (excluded has_mark (Number s) refl (mark_there (class_of_number s) m h))
+is_mark (Punct k) m h = mark_by k m h
+
+-- what a token takes that is a mark
+pub mark_stands : (m : Mark) (k : LexemeKind) → is_one_of (class_of k) (class_of_mark m ∷ []) ≡ true → Stands k (mark m)
+mark_stands m k h = is_mark k m (ap mark_of (only_class (class_of k) (class_of_mark m) h) ∙ same_mark m)

@@ -1,5 +1,5 @@
 use Rattle.std.proofs.Common.{◌∙◌, ap}
-use Rattle.rust_names.specs.Resolution.{only_parameters}
+use Rattle.name_tables.specs.Tables.{only_parameters}
 use Rattle.rust_names.proofs.ItemParts.{variants_give}
 use Rattle.rust_names.proofs.items.enum_variants.Goals as goal
 

@@ -1,7 +1,6 @@
-use Rattle.std.proofs.Common.{◌≡◌, ap, sym, ◌∙◌}
+use Rattle.std.proofs.Common.{ap, sym, ◌∙◌}
+use Rattle.name_uses.specs.Walks.{behind, behind_nothing}
 use Rattle.rust_names.specs.Resolution.{read_named}
-use Rattle.rust_names.specs.Walks.{behind}
-use Rattle.rust_names.proofs.Walking.{behind_nothing}
 use Rattle.rust_names.proofs.items.named_fields.Goals as goal
 
 pub loop-i-init : goal.loop-i-init

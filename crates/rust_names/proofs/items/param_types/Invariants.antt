@@ -1,6 +1,6 @@
 use Rattle.std.proofs.Common.{◌≡◌, drop}
+use Rattle.name_uses.specs.Walks.{each, behind}
 use Rattle.rust_names.specs.Resolution.{read_params, param_type}
-use Rattle.rust_names.specs.Walks.{each, behind}
 use Rattle.rust_names.proofs.items.param_types.Given as goal
 
 abbrev pub invariant-loop-i : goal.invariant-loop-i

@@ -1,6 +1,6 @@
 use Rattle.std.proofs.Common.{◌≡◌, drop}
+use Rattle.name_uses.specs.Walks.{behind}
 use Rattle.rust_names.specs.Resolution.{read_placed}
-use Rattle.rust_names.specs.Walks.{behind}
 use Rattle.rust_names.proofs.items.placed_fields.Given as goal
 
 abbrev pub invariant-loop-i : goal.invariant-loop-i

@@ -1,0 +1,2 @@
+//! The texts that definitions are spelled as are read.
+#![tactic(auto)]

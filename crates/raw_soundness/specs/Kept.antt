@@ -1,0 +1,58 @@
+-- Each production makes values of its part's shape. Written by tools/text_sound.py.
+use Rattle.std.specs.Prelude.{◌≡◌, refl}
+use Rattle.std.proofs.Common.{inl, inr}
+use Rattle.text_table.specs.declared.part.Part.{Part}
+use Rattle.text_table.specs.declared.part.Part.TheVariants as N
+use Rattle.raw_reader.specs.Makes.{made}
+use Rattle.raw_reader.specs.Ways as ways
+use Rattle.raw_soundness.specs.Readings.{IsKept, OfEach}
+use Rattle.raw_soundness.specs.Shaping.{two_or_more, product_shaped, tuple_shaped, unit_shaped, name_first_shaped, after_type_shaped, bracketed_shaped, let_shaped, int_operation_shaped, cast_shaped, memory_shaped, replace_shaped, swap_shaped}
+
+pub kept : (n : Part) → OfEach n (IsKept n) (made n)
+kept N.Text = ((λ v f. ((f.1.1.1.1.0.0, f.1.1.1.1.1.0.0), (f.1.1.1.1.0.1, f.1.1.1.1.1.0.1))), tt)
+kept N.Types = ((λ v f. (tt, tt)), ((λ v f. ((f.0.0, f.1.0.0), (f.0.1, f.1.0.1))), tt))
+kept N.Declaration = ((λ v f. (f.1.1.1.1.0.0, record { name = f.1.0.1; parameters = f.1.1.0; members = f.1.1.1.1.0.1 })), ((λ v f. (f.1.1.1.1.0.0, record { name = f.1.0.1; parameters = f.1.1.0; members = f.1.1.1.1.0.1 })), tt))
+kept N.TypeParameters = ((λ v f. tt), ((λ v f. (f.1.0.1, f.1.1.1.1.1.0)), tt))
+kept N.Variants = ((λ v f. (tt, tt)), ((λ v f. ((f.1.1.1.0, f.1.1.1.1.0.0), (f.1.0.1, f.1.1.1.1.0.1))), tt))
+kept N.VariantType = ((λ v f. (f.0, f.1.1.0)), ((λ v f. name_first_shaped v.0 v.1.0 f.1.0), tt))
+kept N.VariantEnd = ((λ v f. tt), ((λ v f. f.1.0), ((λ v f. tt), tt)))
+kept N.Names = ((λ v f. tt), ((λ v f. tt), tt))
+kept N.Fields = ((λ v f. (tt, tt)), ((λ v f. ((f.1.1.1.0, f.1.1.1.1.1.0.0), (f.1.0.1, f.1.1.1.1.1.0.1))), tt))
+kept N.Type = ((λ v f. f.0), ((λ v f. tt), tt))
+kept N.OtherType = ((λ v f. tt), ((λ v f. tt), ((λ v f. tt), ((λ v f. f.1.0.1), tt))))
+kept N.TypeInBrackets = ((λ v f. (tt, product_shaped v.0 v.1.1.0 v.1.1.1.0 f.0 f.1.1.0 f.1.1.1.0)), ((λ v f. (tt, (f.1.0, f.1.1.0))), ((λ v f. after_type_shaped v.0 v.1.0 f.1.0), tt)))
+kept N.AfterTypeName = ((λ v f. (tt, (f.0, f.1.0))), ((λ v f. (tt, (f.1.0, f.1.1.0))), tt))
+kept N.TypeArguments = ((λ v f. tt), ((λ v f. (f.0, f.1.0)), tt))
+kept N.Factors = ((λ v f. tt), ((λ v f. (f.1.0, f.1.1.0)), tt))
+kept N.Definitions = ((λ v f. (tt, tt)), ((λ v f. ((f.0.0, f.1.0.0), (f.0.1, f.1.0.1))), tt))
+kept N.Definition = ((λ v f. (record { parameters = f.1.1.1.1.0; result = f.1.1.1.1.1.1.1.0; code = f.1.1.1.1.1.1.1.1.1.1.0 }, record { function = f.1.0; type_parameters = f.1.1.0 })), tt)
+kept N.FuelParameter = ((λ v f. tt), tt)
+kept N.FuelMatch = ((λ v f. tt), tt)
+kept N.DefinitionName = ((λ v f. f.1.1.0.1), tt)
+kept N.NameEnd = ((λ v f. tt), ((λ v f. tt), tt))
+kept N.NamePart = ((λ v f. tt), ((λ v f. tt), tt))
+kept N.BackEnd = ((λ v f. tt), ((λ v f. tt), tt))
+kept N.ImplicitParameters = ((λ v f. tt), ((λ v f. (f.1.0.1, f.1.1.1.1.1.0)), tt))
+kept N.Parameters = ((λ v f. tt), ((λ v f. (f.1.1.1.0, f.1.1.1.1.1.0)), tt))
+kept N.Code = ((λ v f. let_shaped v.1.0 v.1.1.0 f.1.1.0), ((λ v f. (f.1.1.0, f.1.1.1.1.0)), ((λ v f. f.0), tt)))
+kept N.Bound = ((λ v f. (f.1.0, f.1.1.1.0)), ((λ v f. (f.1.0, f.1.1.1.0)), tt))
+kept N.Arms = ((λ v f. tt), ((λ v f. (f.1.0, f.1.1.1.1.0, f.1.1.1.1.1.0)), tt))
+kept N.Pattern = ((λ v f. tt), ((λ v f. two_or_more (ways.spelled v.1.0) (ways.spelled v.1.1.1.0) v.1.1.1.1.0), ((λ v f. tt), tt)))
+kept N.PatternParts = ((λ v f. tt), ((λ v f. tt), tt))
+kept N.Variables = ((λ v f. tt), ((λ v f. tt), tt))
+kept N.Computation = ((λ v f. f.1.0), ((λ v f. tt), ((λ v f. f.1.1.0), ((λ v f. (f.0, f.1.0)), tt))))
+kept N.Primitive = ((λ v f. int_operation_shaped v.0 v.1.1.0 f.1.1.0.0), ((λ v f. tt), ((λ v f. cast_shaped v.1.1.0.primitive f.1.1.0), ((λ v f. tt), ((λ v f. memory_shaped v.1.1.0.primitive f.1.1.0), tt)))))
+kept N.CastFrom = ((λ v f. tt), ((λ v f. tt), tt))
+kept N.InMemory = ((λ v f. replace_shaped v.0 v.1.0 f.1.0), ((λ v f. swap_shaped v.0 v.1.0 f.1.0), tt))
+kept N.ReplaceEnd = ((λ v f. tt), ((λ v f. refl), tt))
+kept N.SwapEnd = ((λ v f. tt), ((λ v f. f.1.0), tt))
+kept N.SwapRegion = ((λ v f. inl refl), ((λ v f. inr refl), tt))
+kept N.Atom = ((λ v f. f.0), ((λ v f. tt), tt))
+kept N.PlainAtom = ((λ v f. tt), ((λ v f. tt), ((λ v f. tt), ((λ v f. unit_shaped), ((λ v f. f.1.0.1), tt)))))
+kept N.Constructor = ((λ v f. tt), ((λ v f. tt), tt))
+kept N.ExitVariant = ((λ v f. tt), ((λ v f. tt), tt))
+kept N.AtomInBrackets = ((λ v f. (tt, tuple_shaped v.0 v.1.1.0 v.1.1.1.0 f.0 f.1.1.0 f.1.1.1.0)), ((λ v f. bracketed_shaped v.0 v.1.0 f.1.0), tt))
+kept N.AfterConstructor = ((λ v f. (tt, (f.0, f.1.0))), ((λ v f. (tt, (f.1.0, f.1.1.0))), tt))
+kept N.TupleParts = ((λ v f. tt), ((λ v f. (f.1.0, f.1.1.0)), tt))
+kept N.Arguments = ((λ v f. tt), ((λ v f. (f.0, f.1.0)), tt))
+kept N.Atoms = ((λ v f. tt), ((λ v f. (f.0, f.1.0)), tt))

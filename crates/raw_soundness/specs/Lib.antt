@@ -1,0 +1,17 @@
+pub mod BareNames
+pub mod Shapes
+pub mod Symbols
+pub mod Met
+pub mod Readings
+pub mod Shaping
+pub mod Spelling
+pub mod Kept
+pub mod Spelled
+pub mod Spells
+pub mod NumbersSpelled
+pub mod NamesSpelled
+pub mod TypesSpelled
+pub mod AtomsSpelled
+pub mod CodeSpelled
+pub mod DeclarationsSpelled
+pub mod DefinitionsSpelled

@@ -1,6 +1,0 @@
-use Rattle.std.proofs.Common.{◌≡◌, take}
-use Rattle.rust_names.specs.Tables.{variant_names}
-use Rattle.rust_names.proofs.gathering.variant_names.Given as goal
-
-abbrev pub invariant-loop-i : goal.invariant-loop-i
-invariant-loop-i l = l.names ≡ variant_names (take l.i l.variants)

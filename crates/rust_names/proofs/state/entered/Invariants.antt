@@ -1,9 +1,0 @@
-use Rattle.std.proofs.Common.{◌≡◌, ◌-◌}
-use Rattle.rust_names.specs.Scopes.{with_variables}
-use Rattle.rust_names.proofs.state.entered.Given as goal
-
-abbrev pub invariant-loop-place : goal.invariant-loop-place
-invariant-loop-place l = with_variables l.place l.to l.variables l.scope ≡ with_variables l.fn.from l.to l.variables l.fn.scope
-
-abbrev pub decreases-loop-place : goal.decreases-loop-place
-decreases-loop-place l = l.to - l.place

@@ -1,8 +1,0 @@
-use Rattle.rust_names.proofs.Repeating.{function_twice}
-use Rattle.rust_names.proofs.twice.twice_in_named_function.Goals as goal
-
-pub returns-clause-places : goal.returns-clause-places
-returns-clause-places c =
-    function_twice c.args.tables.now.values c.args.seen c.args.f.now c.as_slice-parameters.result.now c.as_slice.result.now c.in_ok-own.own c.in_ok-own.params c.in_ok-lifetimes.lifetimes c.in_ok-inside.inside
-    c.first-rest.result c.first-later.result c.first-places.result c.as_slice-parameters.ensures c.as_slice.ensures c.in_ok-own.ensures.own c.in_ok-own.ensures.parameters c.in_ok-lifetimes.ensures c.in_ok-inside.ensures
-    c.first-rest.ensures c.first-later.ensures c.first-places.ensures

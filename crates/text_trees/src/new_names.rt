@@ -1,0 +1,72 @@
+//! The rules on names that are declared, each on one node.
+
+ghost use Rattle.std.specs.Prelude.{◌≡◌, true};
+ghost use Rattle.raw_meaning.specs.Outlines.{is_in};
+ghost use Rattle.text_trees.specs.Nodes as nodes;
+ghost use Rattle.text_trees.specs.Told.{Gives};
+
+use crate::SettleFault;
+use aen_base::Name;
+use pure_ast::DefKind;
+use raw_ast::{DefinitionName, Spelling};
+use text_names::{Kinds, Names, Tables};
+
+/// A parameter is the variable of its place.
+pub(crate) fn parameter(place: usize, name: &Spelling) -> Result<(), SettleFault>
+    ensures { Gives (nodes.parameter place name.now) result }
+{
+    Err(SettleFault::Memory)
+}
+
+/// A type after these types and type parameters.
+pub(crate) fn new_type(
+    types: &Names,
+    parameters: &Names,
+    name: &Spelling,
+) -> Result<(), SettleFault>
+    ensures { Gives (nodes.new_type types.now parameters.now name.now) result }
+{
+    Err(SettleFault::Memory)
+}
+
+/// A type parameter after these types and type parameters.
+pub(crate) fn new_parameter(
+    types: &Names,
+    parameters: &Names,
+    name: &Spelling,
+) -> Result<(), SettleFault>
+    ensures { Gives (nodes.new_parameter types.now parameters.now name.now) result }
+{
+    Err(SettleFault::Memory)
+}
+
+/// A variant or a field after these.
+pub(crate) fn new_member(members: &Names, name: &Spelling) -> Result<(), SettleFault>
+    ensures { Gives (nodes.new_member members.now name.now) result }
+{
+    Err(SettleFault::Memory)
+}
+
+/// The end of a variant of a type of this name with these type parameters.
+pub(crate) fn variant_end(
+    ty: &Name,
+    parameters: &Names,
+    end: &Spelling,
+    names: &[Spelling],
+) -> Result<(), SettleFault>
+    ensures { Gives (nodes.variant_end ty.now parameters.now end.now names.now) result }
+{
+    Err(SettleFault::Memory)
+}
+
+/// What a definition of this name is for, after definitions of these kinds.
+pub(crate) fn new_definition(
+    tables: &Tables,
+    kinds: &Kinds,
+    name: &DefinitionName,
+) -> Result<DefKind, SettleFault>
+    requires { is_in name.now.function.text tables.now.functions ≡ true }
+    ensures { Gives (nodes.new_definition tables.now.functions kinds.now name.now) result }
+{
+    Err(SettleFault::Memory)
+}
