@@ -25,7 +25,9 @@ use Rattle.text_table.specs.declared.terminal.Terminal.TheVariants as T
 use Rattle.text_table.specs.Classes.{spelling, names}
 use Rattle.text_table.specs.Lexemes.{has_class}
 use Rattle.text_table.specs.Spelled.{class_among, class_named}
+use Rattle.text_syntax.specs.Among.{and_left, and_right, implied, opposed, either_right}
 use Rattle.text_syntax.specs.Classing.{class_of, class_of_word, class_of_other, class_of_name, class_of_number, class_of_mark, own_or_other, is_numbered, text_of}
+use Rattle.raw_completeness.specs.Booleans.{both_true}
 
 -- ---- words, marks and numbers that are known
 
@@ -63,28 +65,6 @@ is_the_number (Marked n) z h = absurd h
 is_the_number (Number s) z h = ap (λ (x : List ℕ). Number x) h
 is_the_number (Punct m) z h = absurd h
 
--- ---- booleans
-
-true_left : (a b : Bool) → a && b ≡ true → a ≡ true
-true_left true b h = refl
-true_left false b h = absurd cc
-
-true_right : (a b : Bool) → a && b ≡ true → b ≡ true
-true_right true b h = h
-true_right false b h = absurd cc
-
-not_true : (b : Bool) → not b ≡ true → b ≡ false
-not_true true h = absurd cc
-not_true false h = refl
-
-implied : (a b : Bool) → not a || b ≡ true → a ≡ true → b ≡ true
-implied true b h g = h
-implied false b h g = absurd cc
-
-refuted : (b : Bool) → not b ≡ true → b ≡ true → ⊥
-refuted true h g = cc
-refuted false h g = cc
-
 -- ---- words by what holds of all classes of words
 
 found_by : (b : Bool) (test : Class → Bool) (w : List ℕ) (c d : Class) (o : Option Class) → (b ≡ true → w ≡ spelling c) → test c ≡ true →
@@ -95,15 +75,15 @@ found_by false test w c d o s t later h = later h
 among : (test : Class → Bool) (w : List ℕ) (cs : List Class) (d : Class) → list_all test cs ≡ true → class_among w cs ≡ Some d → (w ≡ spelling d) × (test d ≡ true)
 among test w [] d a h = absurd cc
 among test w (c ∷ cs) d a h =
-    found_by (bytes_eq w (spelling c)) test w c d (class_among w cs) (λ e. (bytes_decides w (spelling c)).0 e) (true_left (test c) (list_all test cs) a)
-    (λ g. among test w cs d (true_right (test c) (list_all test cs) a) g) h
+    found_by (bytes_eq w (spelling c)) test w c d (class_among w cs) (λ e. (bytes_decides w (spelling c)).0 e) (and_left (test c) (list_all test cs) a)
+    (λ g. among test w cs d (and_right (test c) (list_all test cs) a) g) h
 
 -- a word that passes a test which no class's word passes has no class of its own
 none_by : (o : Option Class) (test : List ℕ → Bool) (w : List ℕ) → class_among w names ≡ o → list_all (λ (c : Class). not (test (spelling c))) names ≡ true → test w ≡ true → o ≡ None
 none_by None test w e a h = refl
 none_by (Some d) test w e a h =
     let r = among (λ (c : Class). not (test (spelling c))) w names d a e in
-    absurd (refuted (test (spelling d)) r.1 (ap test (sym r.0) ∙ h))
+    absurd (opposed (test (spelling d)) r.1 (ap test (sym r.0) ∙ h))
 
 other_than_words : (test : List ℕ → Bool) (w : List ℕ) → list_all (λ (c : Class). not (test (spelling c))) names ≡ true → test w ≡ true → class_of_word w ≡ class_of_other w
 other_than_words test w a h = ap (λ (o : Option Class). own_or_other o w) (none_by (class_named w) test w refl a h)
@@ -156,9 +136,6 @@ number_fits z = any_number (bytes_eq (signed_decimal z) (codes "0")) (bytes_eq (
 digit_class : (c : ℕ) → digit_value c < 10 → is_ascii_digit c ≡ true
 digit_class c h = grind (arith, nat_tests)
 
-both_true : (a b : Bool) → a ≡ true → b ≡ true → a && b ≡ true
-both_true a b p q = (λ i. p i && b) ∙ q
-
 all_class : (ds : List ℕ) → AllDigits 10 ds → list_all is_ascii_digit ds ≡ true
 all_class [] h = refl
 all_class (c ∷ cs) h = both_true _ _ (digit_class c h.0) (all_class cs h.1)
@@ -191,17 +168,13 @@ variable_fits v small = ap (has_class T.Variable) (variable_fits_if (var_text v)
 
 -- `loop` and `back`
 digit_is_word_byte : (c : ℕ) → is_ascii_digit c ≡ true → is_word_byte c ≡ true
-digit_is_word_byte c h = right_true (is_ascii_alphabetic c || (c == 95)) (is_ascii_digit c) h
-  where
-    right_true : (a b : Bool) → b ≡ true → a || b ≡ true
-    right_true true b h = refl
-    right_true false b h = h
+digit_is_word_byte c h = either_right (is_ascii_alphabetic c || (c == 95)) (is_ascii_digit c) h
 
 digits_are_word_bytes : (ds : List ℕ) → list_all is_ascii_digit ds ≡ true → list_all is_word_byte ds ≡ true
 digits_are_word_bytes [] h = refl
 digits_are_word_bytes (d ∷ ds) h =
-    both_true _ _ (digit_is_word_byte d (true_left (is_ascii_digit d) (list_all is_ascii_digit ds) h))
-    (digits_are_word_bytes ds (true_right (is_ascii_digit d) (list_all is_ascii_digit ds) h))
+    both_true _ _ (digit_is_word_byte d (and_left (is_ascii_digit d) (list_all is_ascii_digit ds) h))
+    (digits_are_word_bytes ds (and_right (is_ascii_digit d) (list_all is_ascii_digit ds) h))
 
 loop_bare : (ds : List ℕ) → are_digits ds ≡ true → is_bare (codes "loop" ++ ds) ≡ true
 loop_bare [] h = absurd cc

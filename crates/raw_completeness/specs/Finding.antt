@@ -22,7 +22,9 @@ use Rattle.raw_meaning.specs.declared.outline.VariantHead.{VariantHead}
 use Rattle.raw_meaning.specs.Heads.{head_of_variant, head_of_type, head_of_definition, declared_by}
 use Rattle.raw_meaning.specs.Lookups.{type_of, variant_of, constructor_of, same_kind, head_of_kind}
 use Rattle.raw_meaning.specs.Outlines.{place_of}
-use Rattle.raw_completeness.specs.Lists.{both_true, left_true, right_true, false_if, same_number, each_at, each_of_map, there, place_of_item, no_place, find_item}
+use Rattle.text_syntax.specs.Among.{and_left, and_right}
+use Rattle.raw_completeness.specs.Booleans.{both_true, false_if}
+use Rattle.raw_completeness.specs.Lists.{same_number, each_at, each_of_map, there, place_of_item, no_place, find_item}
 
 -- in an outline names are found as these definitions number them
 pub record Finds (d : Defs) (h : Outline) : Type 0 where
@@ -78,7 +80,7 @@ function_by d f g h =
     let x = there d.names f h in
     subst (λ (a : List ℕ). place_of d.names a ≡ Some f) (sym (ap or_empty x.1)) (place_of_item d.names x.0 f g x.1)
 
-least : (k : ℕ) (ds : List Def) (count : ℕ) → AreInOrder k ds count → k < suc count
+pub least : (k : ℕ) (ds : List Def) (count : ℕ) → AreInOrder k ds count → k < suc count
 least k [] count h = omega (arith, h)
 least k (x ∷ ds) count (inl h) = least k ds count h.1
 least k (x ∷ ds) count (inr h) = let r = least (suc k) ds count h.1 in omega arith
@@ -98,11 +100,11 @@ in_order k (x ∷ ds) count (suc i) e (inr h) at = in_order (suc k) ds count i e
 
 pub kind_same : (a b : DefKind) → same_kind a b ≡ true → a ≡ b
 kind_same (K.Forward f) (K.Forward g) h = (λ i. K.Forward (record { 0 = eqb-true f.0 g.0 h i }))
-kind_same (K.Back f r) (K.Back g s) h = (λ i. K.Back (record { 0 = eqb-true f.0 g.0 (left_true _ _ h) i }) (record { 0 = eqb-true r.0 s.0 (right_true (f.0 == g.0) _ h) i }))
-kind_same (K.Loop f k) (K.Loop g l) h = (λ i. K.Loop (record { 0 = eqb-true f.0 g.0 (left_true _ _ h) i }) (record { 0 = eqb-true k.0 l.0 (right_true (f.0 == g.0) _ h) i }))
+kind_same (K.Back f r) (K.Back g s) h = (λ i. K.Back (record { 0 = eqb-true f.0 g.0 (and_left _ _ h) i }) (record { 0 = eqb-true r.0 s.0 (and_right (f.0 == g.0) _ h) i }))
+kind_same (K.Loop f k) (K.Loop g l) h = (λ i. K.Loop (record { 0 = eqb-true f.0 g.0 (and_left _ _ h) i }) (record { 0 = eqb-true k.0 l.0 (and_right (f.0 == g.0) _ h) i }))
 kind_same (K.LoopBack f k c) (K.LoopBack g l m) h =
-    let r = right_true (f.0 == g.0) ((k.0 == l.0) && (c == m)) h in
-    (λ i. K.LoopBack (record { 0 = eqb-true f.0 g.0 (left_true _ _ h) i }) (record { 0 = eqb-true k.0 l.0 (left_true _ _ r) i }) (eqb-true c m (right_true (k.0 == l.0) _ r) i))
+    let r = and_right (f.0 == g.0) ((k.0 == l.0) && (c == m)) h in
+    (λ i. K.LoopBack (record { 0 = eqb-true f.0 g.0 (and_left _ _ h) i }) (record { 0 = eqb-true k.0 l.0 (and_left _ _ r) i }) (eqb-true c m (and_right (k.0 == l.0) _ r) i))
 kind_same (K.Forward f) (K.Back g s) h = absurd cc
 kind_same (K.Forward f) (K.Loop g s) h = absurd cc
 kind_same (K.Forward f) (K.LoopBack g s c) h = absurd cc

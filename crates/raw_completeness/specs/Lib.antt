@@ -1,3 +1,4 @@
+pub mod Booleans
 pub mod Classes
 pub mod Rows
 pub mod Lists
@@ -16,3 +17,7 @@ pub mod Relating
 pub mod Parameters
 pub mod Variants
 pub mod Declarations
+pub mod Definitions
+pub mod Outlined
+pub mod Texts
+pub mod Complete

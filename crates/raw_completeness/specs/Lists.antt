@@ -7,21 +7,7 @@ use Rattle.std.proofs.lemmas.Bool.Decides.{nat_tests}
 use Rattle.text_meaning.specs.Lists.{Each, Differ}
 use Rattle.raw_meaning.specs.Outlines.{place_of, is_in}
 use Rattle.raw_meaning.specs.Lookups.{find}
-
-pub both_true : (a b : Bool) → a ≡ true → b ≡ true → a && b ≡ true
-both_true a b p q = (λ i. p i && b) ∙ q
-
-pub left_true : (a b : Bool) → a && b ≡ true → a ≡ true
-left_true true b h = refl
-left_true false b h = absurd cc
-
-pub right_true : (a b : Bool) → a && b ≡ true → b ≡ true
-right_true true b h = h
-right_true false b h = absurd cc
-
-pub false_if : (b : Bool) → (b ≡ true → ⊥) → b ≡ false
-false_if true h = absurd (h refl)
-false_if false h = refl
+use Rattle.raw_completeness.specs.Booleans.{false_if}
 
 pub same_number : (c : ℕ) → (c == c) ≡ true
 same_number c = grind (arith, nat_tests)

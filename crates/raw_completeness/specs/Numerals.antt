@@ -16,8 +16,10 @@ use Rattle.aen_base.specs.Numbers.{Number, limit, depth, in_range, signed}
 use Rattle.text_meaning.specs.Names.{are_digits}
 use Rattle.text_meaning.specs.Ranges.{IsSmall, IsInRange}
 use Rattle.raw_meaning.specs.Numbers.{small_number, numbered, number_of, magnitude, has_minus}
+use Rattle.text_syntax.specs.Among.{and_left}
+use Rattle.raw_completeness.specs.Booleans.{both_true}
 use Rattle.raw_completeness.specs.Classes.{decimal_digits, wide}
-use Rattle.raw_completeness.specs.Lists.{both_true, left_true, same_number, same_bytes}
+use Rattle.raw_completeness.specs.Lists.{same_number, same_bytes}
 
 less_true : (a b : ℕ) → a < b → nat_lt a b ≡ true
 less_true a b h = grind (arith, nat_tests)
@@ -66,7 +68,7 @@ large_depth Isize = lit≤ tt
 
 digits_not_minus : (ds : List ℕ) → are_digits ds ≡ true → has_minus ds ≡ false
 digits_not_minus [] h = refl
-digits_not_minus (c ∷ cs) h = let k = left_true (is_ascii_digit c) (list_all is_ascii_digit cs) h in grind (arith, nat_tests)
+digits_not_minus (c ∷ cs) h = let k = and_left (is_ascii_digit c) (list_all is_ascii_digit cs) h in grind (arith, nat_tests)
 
 plain_magnitude : (ds : List ℕ) → has_minus ds ≡ false → magnitude ds ≡ digits_value 10 ds
 plain_magnitude [] h = refl

@@ -14,6 +14,7 @@ use Rattle.text_table.specs.declared.lexeme.Lexeme.{Lexeme}
 use Rattle.text_table.specs.declared.part.Part.{Part}
 use Rattle.text_table.specs.declared.terminal.Terminal.{Terminal}
 use Rattle.text_table.specs.Lexemes.{takes, has_class}
+use Rattle.text_syntax.specs.Among.{and_left, and_right}
 use Rattle.text_syntax.specs.Classing.{class_of, lexeme_of}
 use Rattle.raw_values.specs.Carriers.{carrier}
 use Rattle.raw_reader.specs.Makes.{made}
@@ -121,23 +122,15 @@ pub record RowRead (r : Row) (ls us : List Spelled) : Type 0 where
 whole : (t : Terminal) (l : Spelled) → has_class t (class_of l.kind) ≡ true → takes t (lexeme_of l) ≡ K.Whole
 whole t l h = ap (λ (b : Bool). if b then K.Whole else K.No) h
 
-left_true : (a b : Bool) → a && b ≡ true → a ≡ true
-left_true true b h = refl
-left_true false b h = absurd cc
-
-right_true : (a b : Bool) → a && b ≡ true → b ≡ true
-right_true true b h = h
-right_true false b h = absurd cc
-
 pub read_row : (r : Row) → all_fit r ≡ true → Given r → (ls us : List Spelled) → Begins (spelled r) ls us → RowRead r ls us
 read_row done f g ls us h =
     record { values = tt; reads = subst (λ (x : List Spelled). ReadsAll takes carrier made [] (classed ls) (classed x) tt) h nothing; holds = tt }
 read_row (fixed t u r) f g [] us h = absurd h
 read_row (fixed t u r) f g (l ∷ ls) us h =
-    let x = read_row r (right_true (fits t u) (all_fit r) f) g ls us h.1 in
+    let x = read_row r (and_right (fits t u) (all_fit r) f) g ls us h.1 in
     record {
       values = (lexeme_of l, x.values);
-      reads = token (whole t l (fitting t u l.kind (left_true (fits t u) (all_fit r) f) h.0)) x.reads;
+      reads = token (whole t l (fitting t u l.kind (and_left (fits t u) (all_fit r) f) h.0)) x.reads;
       holds = x.holds;
     }
 read_row (leaf t u P r) f g [] us h = absurd h
