@@ -1,0 +1,7 @@
+pub mod Decimals
+pub mod Proper
+pub mod ValueWords
+pub mod NamedDefinitions
+pub mod Pieces
+pub mod Typing
+pub mod WordReading
