@@ -1,5 +1,5 @@
 -- Terms are read as they are spelled.
-use Rattle.std.proofs.Common.{◌≡◌, refl, ap, sym, subst, ◌∙◌, ℕ, zero, suc, ◌+◌, Bool, true, false, List, [], ◌∷◌, ◌++◌, append_assoc, length, Option, Some, None, ◌⊎◌, inl, inr}
+use Rattle.std.proofs.Common.{◌≡◌, refl, ap, sym, subst, ◌∙◌, ℕ, suc, Bool, true, false, List, [], ◌∷◌, ◌++◌, append_assoc, length, Option, Some, ◌⊎◌, inl, inr}
 use Rattle.std.specs.Prelude.{codes, is_some}
 use Rattle.std.specs.Fmt.{signed_decimal}
 use Rattle.std.specs.Option.{option_map}
@@ -15,7 +15,7 @@ use Rattle.text_meaning.specs.Lookups.{parts_of}
 use Rattle.text_meaning.specs.Ranges.{IsSmall, IsInRange}
 use Rattle.text_meaning.specs.SpelledNames.{var_token, ctor_tokens}
 use Rattle.text_meaning.specs.SpelledTerms.{term_tokens, terms_tokens, comma_tokens}
-use Rattle.text_meaning.specs.Tokens.{Token, word, id, number, mark, var_text}
+use Rattle.text_meaning.specs.Tokens.{Token, word, number, mark, var_text}
 use Rattle.text_meaning.specs.Words.{int_word}
 use Rattle.text_meaning.specs.WellFormedTerms.{IsTerm, AreTerms}
 use Rattle.text_table.specs.declared.lexeme.Lexeme.{Lexeme}
@@ -91,9 +91,10 @@ module _ (d : Defs) (h : Outline) where
       IsTermOf (built c xs) (a.built k (rawatoms vs))
   built_of c xs k vs w p q =
       let n = length (terms_list xs) in
-      let r = p n w in
-      ((λ i. both (λ k ts. term.built k ts) (constructor_id h k (q.1.1 i)) (q.0 i)) ∙ ap (λ (o : Option CtorId). both (λ k ts. term.built k ts) o (Some xs)) r.0,
-       (λ i. rule.constructor h k (q.1.1 i) ++ q.1.0 i) ∙ ap (λ (spans : List Span). spans ++ []) r.1)
+      let r = p n w in (
+        (λ i. both (λ k ts. term.built k ts) (constructor_id h k (q.1.1 i)) (q.0 i)) ∙ ap (λ (o : Option CtorId). both (λ k ts. term.built k ts) o (Some xs)) r.0,
+        (λ i. rule.constructor h k (q.1.1 i) ++ q.1.0 i) ∙ ap (λ (spans : List Span). spans ++ []) r.1,
+      )
 
   -- a term is a constructor alone, or is read as another atom
   abbrev pub IsLone : CtorId → Term → Type 0
@@ -135,7 +136,7 @@ module _ (d : Defs) (h : Outline) where
     built_read c x xs w p q =
         let Rest : AfterConstructor → Type 0 = IsAfter (λ vs. after.Arguments vs) (more_terms x xs) in
         let rest = produce N.AfterConstructor 0 (node N.Atom (term_tokens d x) (IsTermOf x) (last N.Arguments (arguments_tokens xs) (AreTermsOf xs)))
-            Rest refl (as_atom x p, q) (λ ls us vs r g. (vs, (r, (vs.0 ∷ vs.1.0, (refl, more_of x xs vs.0 vs.1.0 g.0 g.1))))) in
+        Rest refl (as_atom x p, q) (λ ls us vs r g. (vs, (r, (vs.0 ∷ vs.1.0, (refl, more_of x xs vs.0 vs.1.0 g.0 g.1))))) in
         produce N.AtomInBrackets 1 (node N.Constructor (ctor_tokens d c) (IsConstructorOf d h c) (last N.AfterConstructor (term_tokens d x ++ arguments_tokens xs) Rest))
         (IsTermOf (built c (more_terms x xs))) refl (constructor_read d h finds c, rest)
         (λ ls us vs r g. (vs, (r, after_built c (more_terms x xs) vs.0 vs.1.0 w g.0 g.1)))
@@ -147,9 +148,9 @@ module _ (d : Defs) (h : Outline) where
     abbrev part_row : Term → Terms → Row
     part_row x xs = fixed T.Comma (mark M.Comma) (node N.Atom (term_tokens d x) (IsTermOf x) (last N.TupleParts (parts_tokens xs) (AreTermsOf xs)))
 
-    after_tuple : (c : CtorId) (x : Term) (xs : Terms) (k : Constructor) (v : AfterConstructor) → IsTermOf x (a.built k a.no_rawatoms) → IsAfter (λ vs. after.Parts vs) xs v →
+    after_tuple : (x : Term) (xs : Terms) (k : Constructor) (v : AfterConstructor) → IsTermOf x (a.built k a.no_rawatoms) → IsAfter (λ vs. after.Parts vs) xs v →
         IsTermOf (tuple (more_terms x xs)) (bracketed k v)
-    after_tuple c x xs k v p q =
+    after_tuple x xs k v p q =
         subst (IsTermOf (tuple (more_terms x xs))) (sym (ap (bracketed k) q.1.0))
         (tuple_of (more_terms x xs) (a.built k a.no_rawatoms ∷ q.0) (more_of x xs (a.built k a.no_rawatoms) q.0 p q.1.1))
 
@@ -157,16 +158,22 @@ module _ (d : Defs) (h : Outline) where
         Reading N.AtomInBrackets (term_tokens d x ++ mark M.Comma ∷ (term_tokens d y ++ parts_tokens more)) (IsTermOf (tuple (more_terms x (more_terms y more))))
     tuple_read x y more (inr p) q m =
         produce N.AtomInBrackets 0 (node N.PlainAtom (term_tokens d x) (IsTermOf x) (part_row y more)) (IsTermOf (tuple (more_terms x (more_terms y more)))) refl (p, (as_atom y q, m))
-        (λ ls us vs r g. (vs, (r, tuple_of (more_terms x (more_terms y more)) (vs.0 ∷ vs.1.1.0 ∷ vs.1.1.1.0)
-            (more_of x (more_terms y more) vs.0 (vs.1.1.0 ∷ vs.1.1.1.0) g.0 (more_of y more vs.1.1.0 vs.1.1.1.0 g.1.0 g.1.1)))))
+        (λ ls us vs r g. (
+          vs,
+          (
+            r,
+            tuple_of (more_terms x (more_terms y more)) (vs.0 ∷ vs.1.1.0 ∷ vs.1.1.1.0)
+                (more_of x (more_terms y more) vs.0 (vs.1.1.0 ∷ vs.1.1.1.0) g.0 (more_of y more vs.1.1.0 vs.1.1.1.0 g.1.0 g.1.1)),
+          ),
+        ))
     tuple_read x y more (inl p) q m =
         let Rest : AfterConstructor → Type 0 = IsAfter (λ vs. after.Parts vs) (more_terms y more) in
         let rest = produce N.AfterConstructor 1 (part_row y more) Rest refl (as_atom y q, m)
-            (λ ls us vs r g. (vs, (r, (vs.1.0 ∷ vs.1.1.0, (refl, more_of y more vs.1.0 vs.1.1.0 g.0 g.1))))) in
+        (λ ls us vs r g. (vs, (r, (vs.1.0 ∷ vs.1.1.0, (refl, more_of y more vs.1.0 vs.1.1.0 g.0 g.1))))) in
         subst (λ (ts : List Token). Reading N.AtomInBrackets (ts ++ mark M.Comma ∷ (term_tokens d y ++ parts_tokens more)) (IsTermOf (tuple (more_terms x (more_terms y more))))) (sym p.1.0)
         (produce N.AtomInBrackets 1 (node N.Constructor (ctor_tokens d p.0) (IsConstructorOf d h p.0) (last N.AfterConstructor (mark M.Comma ∷ (term_tokens d y ++ parts_tokens more)) Rest))
-            (IsTermOf (tuple (more_terms x (more_terms y more)))) refl (constructor_read d h finds p.0, rest)
-            (λ ls us vs r g. (vs, (r, after_tuple p.0 x (more_terms y more) vs.0 vs.1.0 (p.1.1 vs.0 g.0) g.1))))
+        (IsTermOf (tuple (more_terms x (more_terms y more)))) refl (constructor_read d h finds p.0, rest)
+        (λ ls us vs r g. (vs, (r, after_tuple x (more_terms y more) vs.0 vs.1.0 (p.1.1 vs.0 g.0) g.1))))
 
     mutual
       pub term_read : (x : Term) → IsTerm d x → ReadTerm x

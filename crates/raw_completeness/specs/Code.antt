@@ -1,8 +1,7 @@
 -- Code is read as it is spelled.
-use Rattle.std.proofs.Common.{◌≡◌, refl, ap, sym, subst, ◌∙◌, ℕ, Bool, true, false, List, [], ◌∷◌, ◌++◌, append_assoc, Option, Some, None}
+use Rattle.std.proofs.Common.{◌≡◌, refl, ap, sym, subst, ◌∙◌, ℕ, List, [], ◌∷◌, ◌++◌, append_assoc, Some}
 use Rattle.std.specs.Prelude.{codes}
 use Rattle.std.specs.Option.{option_map}
-use Rattle.aen_base.specs.declared.span.Span.{Span}
 use Rattle.pure_ast.specs.declared.comp.Comp.{Comp}
 use Rattle.pure_ast.specs.declared.def.Defs.{Defs}
 use Rattle.pure_ast.specs.declared.pat.Pat.{Pat}
@@ -10,7 +9,6 @@ use Rattle.pure_ast.specs.Code as code
 use Rattle.pure_ast.specs.Code.{Code, Arms, bind, put, select, last as end, bind_select, no_arms, more_arms}
 use Rattle.pure_ast.specs.Terms.{Term}
 use Rattle.text_meaning.specs.declared.mark.Mark.TheVariants as M
-use Rattle.text_meaning.specs.Ranges.{IsSmall}
 use Rattle.text_meaning.specs.SpelledCode.{code_tokens, arms_tokens}
 use Rattle.text_meaning.specs.SpelledNames.{var_token}
 use Rattle.text_meaning.specs.SpelledTerms.{term_tokens, pat_tokens, comp_tokens}
@@ -21,7 +19,6 @@ use Rattle.text_table.specs.declared.terminal.Terminal.TheVariants as T
 use Rattle.text_table.specs.declared.lexeme.Lexeme.{Lexeme}
 use Rattle.raw_ast.specs.declared.computation.Computation.{Computation}
 use Rattle.raw_ast.specs.declared.pattern.Pattern.{Pattern}
-use Rattle.raw_ast.specs.declared.spelling.Spelling.{Spelling}
 use Rattle.raw_ast.specs.Atoms.{RawAtom}
 use Rattle.raw_ast.specs.Code as c
 use Rattle.raw_ast.specs.Code.{RawCode, rawarms}
@@ -93,15 +90,15 @@ module _ (d : Defs) (h : Outline) where
       pub code_read : (x : Code) → IsCode d x → Reading N.Code (code_tokens d x) (IsCodeOf x)
       code_read (bind k x y) w =
           let rest = produce N.Bound 0 (fixed T.From (mark M.From) (node N.Computation (comp_tokens d x) (IsCompOf d h x) (fixed T.Semicolon (mark M.Semicolon)
-              (last N.Code (code_tokens d y) (IsCodeOf y))))) (IsBind x y) refl (comp_read d h finds x w.1, code_read y w.2)
-              (λ ls us vs r g. (vs, (r, (vs.1.0, (vs.1.1.1.0, (refl, g)))))) in
+          (last N.Code (code_tokens d y) (IsCodeOf y))))) (IsBind x y) refl (comp_read d h finds x w.1, code_read y w.2)
+          (λ ls us vs r g. (vs, (r, (vs.1.0, (vs.1.1.1.0, (refl, g)))))) in
           produce N.Code 0 (fixed T.Let (word (codes "let")) (leaf T.Variable (var_token k) (Says (var_text k))
           (last N.Bound (mark M.From ∷ (comp_tokens d x ++ mark M.Semicolon ∷ code_tokens d y)) (IsBind x y)))) (IsCodeOf (bind k x y)) refl (variables k w.0, rest)
           (λ ls us vs r g. (vs, (r, bind_of k x y vs.1.0 vs.1.1.0 (variable_of k (spelling_of vs.1.0) w.0 g.0) g.1)))
       code_read (put k x y) w =
           let rest = produce N.Bound 1 (fixed T.Becomes (mark M.Becomes) (node N.Atom (term_tokens d x) (IsTermOf d h x) (fixed T.Semicolon (mark M.Semicolon)
-              (last N.Code (code_tokens d y) (IsCodeOf y))))) (IsPut x y) refl (atom_read d h finds x w.1, code_read y w.2)
-              (λ ls us vs r g. (vs, (r, (vs.1.0, (vs.1.1.1.0, (refl, g)))))) in
+          (last N.Code (code_tokens d y) (IsCodeOf y))))) (IsPut x y) refl (atom_read d h finds x w.1, code_read y w.2)
+          (λ ls us vs r g. (vs, (r, (vs.1.0, (vs.1.1.1.0, (refl, g)))))) in
           produce N.Code 0 (fixed T.Let (word (codes "let")) (leaf T.Variable (var_token k) (Says (var_text k))
           (last N.Bound (mark M.Becomes ∷ (term_tokens d x ++ mark M.Semicolon ∷ code_tokens d y)) (IsPut x y)))) (IsCodeOf (put k x y)) refl (variables k w.0, rest)
           (λ ls us vs r g. (vs, (r, put_of k x y vs.1.0 vs.1.1.0 (variable_of k (spelling_of vs.1.0) w.0 g.0) g.1)))

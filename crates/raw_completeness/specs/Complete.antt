@@ -1,6 +1,6 @@
 -- All lexemes that stand for the tokens of well-formed definitions, a type or a term are read as what stands for them and
 -- breaks no rule (TEXT.md, "Reading").
-use Rattle.std.proofs.Common.{◌≡◌, sym, subst, ℕ, List, [], map, Some, length}
+use Rattle.std.proofs.Common.{◌≡◌, subst, ℕ, List, [], map, Some, length}
 use Rattle.pure_ast.specs.declared.def.Defs.{Defs}
 use Rattle.pure_ast.specs.Terms.{Term}
 use Rattle.pure_ast.specs.Types.{PTy}
@@ -26,7 +26,7 @@ use Rattle.raw_meaning.specs.Heads.{declared_by}
 use Rattle.raw_meaning.specs.Trees.{definitions, type_tree, atom_tree}
 use Rattle.raw_completeness.specs.Atoms.{IsTermOf, atom_read}
 use Rattle.raw_completeness.specs.Finding.{finds, places}
-use Rattle.raw_completeness.specs.Rows.{Reading, Gives, all_begin}
+use Rattle.raw_completeness.specs.Rows.{Reading, all_begin}
 use Rattle.raw_completeness.specs.Texts.{IsTextOf, text_read}
 use Rattle.raw_completeness.specs.Types.{IsTypeOf, as_type, type_read}
 

@@ -1,20 +1,17 @@
 -- Computations are read as they are spelled.
-use Rattle.std.proofs.Common.{◌≡◌, refl, ap, sym, subst, ◌∙◌, ℕ, ◌+◌, ◌<◌, Bool, true, false, List, [], ◌∷◌, ◌++◌, length, Option, Some, None}
+use Rattle.std.proofs.Common.{◌≡◌, refl, ap, sym, ◌∙◌, ℕ, Bool, List, [], ◌∷◌, ◌++◌, length, Option, Some, None}
 use Rattle.std.specs.Prelude.{◌==◌, if◌then◌else◌, codes, is_some, slice_get}
 use Rattle.std.specs.Option.{option_map, option_and_then}
-use Rattle.aen_base.specs.declared.ids.DefId.{DefId}
-use Rattle.aen_base.specs.declared.span.Span.{Span}
 use Rattle.pure_ast.specs.declared.comp.Comp.{Comp}
 use Rattle.pure_ast.specs.declared.comp.Comp.TheVariants as C
 use Rattle.pure_ast.specs.declared.comp.Primitive.{Primitive}
 use Rattle.pure_ast.specs.declared.def.Def.{Def}
-use Rattle.pure_ast.specs.declared.def.DefKind.{DefKind}
 use Rattle.pure_ast.specs.declared.def.Defs.{Defs}
-use Rattle.pure_ast.specs.Terms.{Term, Terms, terms, terms_list, terms_back}
-use Rattle.text_meaning.specs.Ranges.{arity, IsPrimitive}
-use Rattle.text_meaning.specs.SpelledNames.{kind_tokens, callee_tokens, def_name_tokens, prim_tokens}
+use Rattle.pure_ast.specs.Terms.{Term, terms, terms_list, terms_back}
+use Rattle.text_meaning.specs.Ranges.{arity}
+use Rattle.text_meaning.specs.SpelledNames.{kind_tokens, def_name_tokens, prim_tokens}
 use Rattle.text_meaning.specs.SpelledTerms.{term_tokens, terms_tokens, comp_tokens}
-use Rattle.text_meaning.specs.Tokens.{Token, word}
+use Rattle.text_meaning.specs.Tokens.{word}
 use Rattle.text_meaning.specs.WellFormed.{function_of}
 use Rattle.text_meaning.specs.WellFormedTerms.{IsComp, AreTerms}
 use Rattle.text_table.specs.declared.part.Part.TheVariants as N
@@ -23,13 +20,12 @@ use Rattle.raw_ast.specs.declared.computation.Computation.{Computation}
 use Rattle.raw_ast.specs.declared.computation.Computation.TheVariants as K
 use Rattle.raw_ast.specs.declared.computation.Operation.{Operation}
 use Rattle.raw_ast.specs.declared.names.DefinitionName.{DefinitionName}
-use Rattle.raw_ast.specs.Atoms.{RawAtom, rawatoms, rawatoms_back}
+use Rattle.raw_ast.specs.Atoms.{RawAtom, rawatoms_back}
 use Rattle.raw_meaning.specs.declared.outline.Outline.{Outline}
-use Rattle.raw_meaning.specs.Faults.{computation_faults, atoms_faults}
+use Rattle.raw_meaning.specs.Faults.{computation_faults}
 use Rattle.raw_meaning.specs.Lookups.{definition_of, head_of_kind}
-use Rattle.raw_meaning.specs.Outlines.{place_of, kind_of}
-use Rattle.raw_meaning.specs.Rules as rule
-use Rattle.raw_meaning.specs.Rules.{unless, unless_parts, unless_declared, last_place}
+use Rattle.raw_meaning.specs.Outlines.{place_of}
+use Rattle.raw_meaning.specs.Rules.{unless, unless_declared, last_place}
 use Rattle.raw_meaning.specs.Trees.{computation_tree, atoms_listed, with_parts, both}
 use Rattle.raw_completeness.specs.Atoms.{IsTermOf, AreTermsOf, atom_read, atoms_read}
 use Rattle.raw_completeness.specs.Finding.{Finds}
@@ -44,9 +40,10 @@ module _ (d : Defs) (h : Outline) where
   IsCompOf c v = (computation_tree h v ≡ Some c) × (computation_faults h v ≡ [])
 
   listed : (parts : List Term) (vs : List RawAtom) → AreTermsOf d h (terms parts) vs → (atoms_listed h vs ≡ Some parts) × (length vs ≡ length parts)
-  listed parts vs q =
-      (ap (option_map terms_list) q.0 ∙ ap (λ (ts : List Term). Some ts) (terms_back parts),
-       ap (λ (xs : List RawAtom). length xs) (sym (rawatoms_back vs)) ∙ q.1.1 ∙ ap (λ (xs : List Term). length xs) (terms_back parts))
+  listed parts vs q = (
+    ap (option_map terms_list) q.0 ∙ ap (λ (ts : List Term). Some ts) (terms_back parts),
+    ap (λ (xs : List RawAtom). length xs) (sym (rawatoms_back vs)) ∙ q.1.1 ∙ ap (λ (xs : List Term). length xs) (terms_back parts),
+  )
 
   -- so many parts of what has so many
   counted : {A : Type 0} (x : A) (n : ℕ) → with_parts (Some (x, n)) n ≡ Some x
@@ -61,21 +58,23 @@ module _ (d : Defs) (h : Outline) where
         let place = finds.functions f (finds.named i e at).0 in
         let there : place_of h.functions n.function.text ≡ Some f = ap (place_of h.functions) p.function ∙ place in
         let found : definition_of h n ≡ Some (i, length parts) =
-            ap (option_and_then (head_of_kind h.definitions)) (kind_found d e.kind n h.functions p place) ∙ finds.definitions i e at ∙ ap (λ (m : ℕ). Some (i, m)) w in
-        ((λ j. both (λ k ys. C.Call (record { 0 = k }) ys) (with_parts (found j) (l.1 j)) (l.0 j))
-         ∙ ap (λ (o : Option ℕ). both (λ k ys. C.Call (record { 0 = k }) ys) o (Some parts)) (counted i (length parts)),
-         (λ j. (if is_some (there j) then unless_declared (numbers_keep d e.kind n p j) (found j) (l.1 j) (last_place n) else n.function.span ∷ []) ++ q.1.0 j)
-         ∙ ap (λ (b : Bool). unless b (last_place n) ++ []) (same_number (length parts)))
+        ap (option_and_then (head_of_kind h.definitions)) (kind_found d e.kind n h.functions p place) ∙ finds.definitions i e at ∙ ap (λ (m : ℕ). Some (i, m)) w in (
+          (λ j. both (λ k ys. C.Call (record { 0 = k }) ys) (with_parts (found j) (l.1 j)) (l.0 j))
+              ∙ ap (λ (o : Option ℕ). both (λ k ys. C.Call (record { 0 = k }) ys) o (Some parts)) (counted i (length parts)),
+          (λ j. (if is_some (there j) then unless_declared (numbers_keep d e.kind n p j) (found j) (l.1 j) (last_place n) else n.function.span ∷ []) ++ q.1.0 j)
+              ∙ ap (λ (b : Bool). unless b (last_place n) ++ []) (same_number (length parts)),
+        )
 
     primitive_of : (p : Primitive) (parts : List Term) (o : Operation) (vs : List RawAtom) → arity p ≡ length parts → IsOperationOf p o → AreTermsOf d h (terms parts) vs →
         IsCompOf (C.Prim p parts) (K.Primitive o vs)
     primitive_of p parts o vs w e q =
-        let l = listed parts vs q in
-        ((λ j. both (λ k ys. C.Prim k ys) (with_parts (Some (e j, arity (e j))) (l.1 j)) (l.0 j))
-         ∙ ap (λ (n : ℕ). both (λ k ys. C.Prim k ys) (with_parts (Some (p, n)) (length parts)) (Some parts)) w
-         ∙ ap (λ (o : Option Primitive). both (λ k ys. C.Prim k ys) o (Some parts)) (counted p (length parts)),
-         (λ j. unless (arity (e j) == l.1 j) o.span ++ q.1.0 j) ∙ ap (λ (n : ℕ). unless (n == length parts) o.span ++ []) w
-         ∙ ap (λ (b : Bool). unless b o.span ++ []) (same_number (length parts)))
+        let l = listed parts vs q in (
+          (λ j. both (λ k ys. C.Prim k ys) (with_parts (Some (e j, arity (e j))) (l.1 j)) (l.0 j))
+              ∙ ap (λ (n : ℕ). both (λ k ys. C.Prim k ys) (with_parts (Some (p, n)) (length parts)) (Some parts)) w
+              ∙ ap (λ (o : Option Primitive). both (λ k ys. C.Prim k ys) o (Some parts)) (counted p (length parts)),
+          (λ j. unless (arity (e j) == l.1 j) o.span ++ q.1.0 j) ∙ ap (λ (n : ℕ). unless (n == length parts) o.span ++ []) w
+              ∙ ap (λ (b : Bool). unless b o.span ++ []) (same_number (length parts)),
+        )
 
     call_read : (i : ℕ) (parts : List Term) (o : Option Def) → slice_get d.defs i ≡ o → option_map (λ (e : Def). length e.params) o ≡ Some (length parts) → AreTerms d (terms parts) →
         Reading N.Computation (def_name_tokens d o ++ word (codes "n") ∷ terms_tokens d (terms parts)) (IsCompOf (C.Call (record { 0 = i }) parts))

@@ -1,5 +1,5 @@
 -- Constructors are read as they are spelled.
-use Rattle.std.proofs.Common.{◌≡◌, refl, ap, sym, ◌∙◌, ℕ, ◌+◌, Bool, true, false, List, [], ◌∷◌, length, Option, Some, None}
+use Rattle.std.proofs.Common.{◌≡◌, refl, ap, sym, ◌∙◌, ℕ, Bool, [], ◌∷◌, length, Option, Some, None}
 use Rattle.std.specs.Prelude.{◌==◌, if◌then◌else◌, codes, is_some, slice_get}
 use Rattle.std.specs.Option.{option_map, option_and_then}
 use Rattle.aen_base.specs.declared.ids.TypeId.{TypeId}
@@ -12,7 +12,6 @@ use Rattle.text_meaning.specs.declared.mark.Mark.TheVariants as M
 use Rattle.text_meaning.specs.Lookups.{Variant, parts_of, type_name, variant_name}
 use Rattle.text_meaning.specs.SpelledNames.{ctor_tokens}
 use Rattle.text_meaning.specs.Tokens.{word, id, mark}
-use Rattle.text_meaning.specs.WellFormedTypes.{parameters_of}
 use Rattle.text_table.specs.declared.part.Part.TheVariants as N
 use Rattle.text_table.specs.declared.terminal.Terminal.TheVariants as T
 use Rattle.raw_ast.specs.declared.names.Constructor.{Constructor}
@@ -46,9 +45,10 @@ module _ (d : Defs) (h : Outline) (finds : Finds d h) where
   variant_of t k a b e f n w =
       let m = declared_by (slice_get d.types t.0) k n w in
       let named : type_of h a.text ≡ Some (t.0, m.0) = ap (type_of h) e ∙ finds.types t.0 m.0 m.1 in
-      let found : constructor_of h a.text b.text ≡ Some (Of t k, n) = (λ i. constructor_of h (e i) (f i)) ∙ finds.constructors t k n w in
-      (ap (λ (o : Option (CtorId × ℕ)). with_parts o n) found ∙ ap (λ (b : Bool). if b then Some (Of t k) else None) (same_number n),
-       (λ i. if is_some (named i) then unless_parts (found i) n b.span else a.span ∷ []) ∙ ap (λ (x : Bool). unless x b.span) (same_number n))
+      let found : constructor_of h a.text b.text ≡ Some (Of t k, n) = (λ i. constructor_of h (e i) (f i)) ∙ finds.constructors t k n w in (
+        ap (λ (o : Option (CtorId × ℕ)). with_parts o n) found ∙ ap (λ (b : Bool). if b then Some (Of t k) else None) (same_number n),
+        (λ i. if is_some (named i) then unless_parts (found i) n b.span else a.span ∷ []) ∙ ap (λ (x : Bool). unless x b.span) (same_number n),
+      )
 
   pub constructor_read : (c : CtorId) → Reading N.Constructor (ctor_tokens d c) (IsConstructorOf d h c)
   constructor_read (Of t k) =
@@ -57,11 +57,11 @@ module _ (d : Defs) (h : Outline) (finds : Finds d h) where
       (λ ls us vs r g. (vs, (r, variant_of t k (spelling_of vs.0) (spelling_of vs.1.1.0) g.0 g.1.0)))
   constructor_read Brk =
       let end = produce N.ExitVariant 0 (fixed T.Brk (word (codes "brk")) done) (IsConstructorOf d h Brk) refl tt
-          (λ ls us vs r g. (vs, (r, λ n w. let e : 1 ≡ n = cc in exit_of Brk n vs.0.span e))) in
+      (λ ls us vs r g. (vs, (r, λ n w. let e : 1 ≡ n = cc in exit_of Brk n vs.0.span e))) in
       produce N.Constructor 1 (fixed T.Exit (word (codes "Exit")) (fixed T.Dot (mark M.Dot) (last N.ExitVariant (word (codes "brk") ∷ []) (IsConstructorOf d h Brk))))
       (IsConstructorOf d h Brk) refl end (λ ls us vs r g. (vs, (r, g)))
   constructor_read Ret =
       let end = produce N.ExitVariant 1 (fixed T.Ret (word (codes "ret")) done) (IsConstructorOf d h Ret) refl tt
-          (λ ls us vs r g. (vs, (r, λ n w. let e : 1 ≡ n = cc in exit_of Ret n vs.0.span e))) in
+      (λ ls us vs r g. (vs, (r, λ n w. let e : 1 ≡ n = cc in exit_of Ret n vs.0.span e))) in
       produce N.Constructor 1 (fixed T.Exit (word (codes "Exit")) (fixed T.Dot (mark M.Dot) (last N.ExitVariant (word (codes "ret") ∷ []) (IsConstructorOf d h Ret))))
       (IsConstructorOf d h Ret) refl end (λ ls us vs r g. (vs, (r, g)))

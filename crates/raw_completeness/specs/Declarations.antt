@@ -1,17 +1,16 @@
 -- Declarations of types are read as they are spelled.
-use Rattle.std.proofs.Common.{◌≡◌, refl, ap, sym, subst, ◌∙◌, ℕ, Bool, true, false, List, [], ◌∷◌, ◌++◌, append_assoc, length, map, Option, Some, None}
+use Rattle.std.proofs.Common.{◌≡◌, refl, ap, sym, subst, ◌∙◌, ℕ, Bool, true, false, List, [], ◌∷◌, ◌++◌, append_assoc, length, map, Option, Some}
 use Rattle.std.specs.Prelude.{◌||◌, not, codes}
 use Rattle.std.specs.List.{flat_map}
 use Rattle.std.specs.Option.{option_map}
-use Rattle.aen_base.specs.declared.span.Span.{Span}
 use Rattle.pure_ast.specs.declared.def.Defs.{Defs}
 use Rattle.pure_ast.specs.declared.def.PType.{PType}
 use Rattle.pure_ast.specs.Types.{PTy}
 use Rattle.text_meaning.specs.Lists.{Each, Differ}
 use Rattle.text_meaning.specs.Lookups.{Variant as NamedFields}
 use Rattle.text_meaning.specs.Spelled.{type_parameter, named_field, variant_tokens, structure_fields, declared_tokens, type_declaration}
-use Rattle.text_meaning.specs.Tokens.{Token, word, id}
-use Rattle.text_meaning.specs.WellFormedTypes.{IsType, IsDeclaration, IsStructure, AreVariants, AreTypeParameters, type_names}
+use Rattle.text_meaning.specs.Tokens.{word, id}
+use Rattle.text_meaning.specs.WellFormedTypes.{IsType, IsDeclaration, IsStructure, AreVariants, type_names}
 use Rattle.text_table.specs.declared.part.Part.TheVariants as N
 use Rattle.text_table.specs.declared.terminal.Terminal.TheVariants as T
 use Rattle.raw_ast.specs.declared.declarations.Declaration.{Declaration}
@@ -21,19 +20,18 @@ use Rattle.raw_ast.specs.declared.spelling.Spelling.{Spelling}
 use Rattle.raw_ast.specs.Types.{RawType}
 use Rattle.raw_reader.specs.Ways.{spelled as spelling_of}
 use Rattle.raw_meaning.specs.declared.outline.Outline.{Outline}
-use Rattle.raw_meaning.specs.declared.outline.VariantHead.{VariantHead}
-use Rattle.raw_meaning.specs.Faults.{texts, variants_faults, fields_faults, members_faults, declaration_faults, declarations_faults, parameters_faults}
+use Rattle.raw_meaning.specs.Faults.{texts, variants_faults, fields_faults, members_faults, declarations_faults}
 use Rattle.raw_meaning.specs.Heads.{head_of_variant, head_of_type}
 use Rattle.raw_meaning.specs.Outlines.{type_head, variant_head}
 use Rattle.raw_meaning.specs.Rules.{unless}
-use Rattle.raw_meaning.specs.Trees.{type_tree, variant_tree, field_tree, declaration_tree, each}
-use Rattle.raw_completeness.specs.Finding.{Finds, Places, places, variants_differ}
+use Rattle.raw_meaning.specs.Trees.{variant_tree, field_tree, declaration_tree, each}
+use Rattle.raw_completeness.specs.Finding.{Finds, Places, places}
 use Rattle.raw_completeness.specs.Leaves.{Says, names}
 use Rattle.raw_completeness.specs.Lists.{each_so, not_in}
 use Rattle.raw_completeness.specs.Parameters.{AreNamesOf, type_parameters_read, AreApart, parameters_keep, IsFieldOf, fields_read, fields_keep}
-use Rattle.raw_completeness.specs.Relating.{All, all_each, all_map, all_length, each_join, each_front, each_middle, differ_before, differ_next}
+use Rattle.raw_completeness.specs.Relating.{All, all_each, all_map, all_length, each_join, each_front, each_middle, differ_before}
 use Rattle.raw_completeness.specs.Rows.{Reading, done, fixed, leaf, node, last, produce}
-use Rattle.raw_completeness.specs.Variants.{IsVariantOf, tokens_of_variants, end_keeps, variants_read, variants_keep, variants_trees, head_same}
+use Rattle.raw_completeness.specs.Variants.{IsVariantOf, end_keeps, variants_read, variants_keep, variants_trees, head_same}
 
 module _ (d : Defs) (h : Outline) where
   -- a declaration as it is spelled is that of this type, and its members break no rule
@@ -67,10 +65,10 @@ module _ (d : Defs) (h : Outline) where
     parameters = e;
     tree =
         (λ i. option_map (λ (vs : List NamedFields). record { name = n i; is_struct = true; params = e i; variants = vs })
-            (option_map (λ (xs : List (List ℕ × PTy)). (codes "mk", xs) ∷ []) (each (field_tree h (e i)) rs)))
+        (option_map (λ (xs : List (List ℕ × PTy)). (codes "mk", xs) ∷ []) (each (field_tree h (e i)) rs)))
         ∙ ap (λ (o : Option (List (List ℕ × PTy))). option_map (λ (vs : List NamedFields). record { name = t.name; is_struct = true; params = t.params; variants = vs })
-            (option_map (λ (xs : List (List ℕ × PTy)). (codes "mk", xs) ∷ []) o))
-            (all_each (IsFieldOf d h t.params) (field_tree h t.params) (λ f r p. (λ i. option_map (λ (x : PTy). (p.0 i, x)) (p.1.0 i))) v.1 rs q)
+        (option_map (λ (xs : List (List ℕ × PTy)). (codes "mk", xs) ∷ []) o))
+        (all_each (IsFieldOf d h t.params) (field_tree h t.params) (λ f r p. (λ i. option_map (λ (x : PTy). (p.0 i, x)) (p.1.0 i))) v.1 rs q)
         ∙ (λ i. Some (record { name = t.name; is_struct = sym b i; params = t.params; variants = (sym w.0 i, v.1) ∷ [] }))
         ∙ (λ i. Some (record { name = t.name; is_struct = t.is_struct; params = t.params; variants = sym one i }));
     head =
@@ -132,4 +130,4 @@ module _ (d : Defs) (h : Outline) where
       λ i. (unless (not (not_in types n (differ_before types n more new) i || not_in parameters n (name_keeps (type_names d) types parameters more n split g a) i)) r.name.span
       ++ (parameters_keep (types ++ n ∷ []) [] r.parameters (front_apart (type_names d) (types ++ n ∷ []) more (texts r.parameters) next own) differ i ++ q.0.members i))
       ++ declarations_keep (types ++ n ∷ []) (parameters ++ texts r.parameters) ts rs q.1 next g
-          (each_join (λ p. Each (λ other. p ≡ other → ⊥) (type_names d)) parameters (texts r.parameters) a own) w.1 i
+      (each_join (λ p. Each (λ other. p ≡ other → ⊥) (type_names d)) parameters (texts r.parameters) a own) w.1 i

@@ -1,5 +1,5 @@
 -- Definitions are read as they are spelled.
-use Rattle.std.proofs.Common.{◌≡◌, refl, ap, sym, subst, ◌∙◌, ℕ, ◌+◌, ◌<◌, ◌≤◌, ◌^◌, Bool, true, false, List, [], ◌∷◌, ◌++◌, append_assoc, length, map, Option, Some, None, ℤ, pos, arith}
+use Rattle.std.proofs.Common.{◌≡◌, refl, ap, sym, subst, ◌∙◌, ℕ, ◌+◌, ◌<◌, ◌≤◌, ◌^◌, false, List, [], ◌∷◌, ◌++◌, append_assoc, length, map, Option, Some, pos, arith}
 use Rattle.std.specs.Prelude.{◌||◌, not, codes}
 use Rattle.std.specs.List.{flat_map}
 use Rattle.aen_base.specs.declared.span.Span.{Span}
@@ -16,7 +16,7 @@ use Rattle.text_meaning.specs.SpelledNames.{kind_tokens}
 use Rattle.text_meaning.specs.SpelledTypes.{type_tokens}
 use Rattle.text_meaning.specs.Tokens.{Token, word, number, mark}
 use Rattle.text_meaning.specs.WellFormed.{function_of, IsKind, IsDefinition}
-use Rattle.text_meaning.specs.WellFormedTypes.{AreTypeParameters, type_names}
+use Rattle.text_meaning.specs.WellFormedTypes.{type_names}
 use Rattle.text_table.specs.declared.part.Part.TheVariants as N
 use Rattle.text_table.specs.declared.terminal.Terminal.TheVariants as T
 use Rattle.raw_ast.specs.declared.declarations.Definition.{Definition}
@@ -25,14 +25,14 @@ use Rattle.raw_ast.specs.declared.spelling.Spelling.{Spelling}
 use Rattle.raw_ast.specs.Code.{RawCode}
 use Rattle.raw_ast.specs.Types.{RawType}
 use Rattle.raw_meaning.specs.declared.outline.Outline.{Outline}
-use Rattle.raw_meaning.specs.Faults.{texts, type_faults, code_faults, parameters_faults, values_faults, definition_faults, definitions_faults, and_kind}
+use Rattle.raw_meaning.specs.Faults.{texts, type_faults, code_faults, values_faults, definitions_faults, and_kind}
 use Rattle.raw_meaning.specs.Lookups.{same_kind}
 use Rattle.raw_meaning.specs.Outlines.{kind_of}
-use Rattle.raw_meaning.specs.Rules.{unless, once, is_among, name_numbers, last_place}
+use Rattle.raw_meaning.specs.Rules.{unless, once, is_among, last_place}
 use Rattle.raw_meaning.specs.Trees.{type_tree, code_tree, parameter_types, definition_tree, defined, four}
 use Rattle.raw_completeness.specs.Booleans.{false_if}
 use Rattle.raw_completeness.specs.Code.{IsCodeOf, code_read}
-use Rattle.raw_completeness.specs.Finding.{Finds, Places, places, kind_same}
+use Rattle.raw_completeness.specs.Finding.{Finds, places, kind_same}
 use Rattle.raw_completeness.specs.Leaves.{Any, zeros, ones}
 use Rattle.raw_completeness.specs.Names.{IsNameOf, kind_found, numbers_keep, name_read}
 use Rattle.raw_completeness.specs.Parameters.{AreNamesOf, implicit_parameters_read, AreApart, parameters_keep, AreParametersOf, parameters_read, parameters_related, values_keep}
@@ -79,7 +79,7 @@ module _ (d : Defs) (h : Outline) where
   definition_of e n ss rs x c l name kind s q p m =
       let related = parameters_related d h e.type_params 0 e.params rs q in
       let types : parameter_types h e.type_params rs ≡ Some e.params =
-          all_each (λ (y : PTy) (r : Spelling × RawType). IsTypeOf d h e.type_params y r.1) (λ (r : Spelling × RawType). type_tree h e.type_params r.1) (λ y r w. w.0) e.params rs related in
+      all_each (λ (y : PTy) (r : Spelling × RawType). IsTypeOf d h e.type_params y r.1) (λ (r : Spelling × RawType). type_tree h e.type_params r.1) (λ y r w. w.0) e.params rs related in
       record {
         name = name;
         kind = kind;
@@ -112,11 +112,27 @@ module _ (d : Defs) (h : Outline) where
         (node N.ImplicitParameters (flat_map implicit_parameter ps) (AreNamesOf ps) (node N.FuelParameter fuel_tokens Nothing
         (node N.Parameters (parameters_tokens d ps 0 e.params) (AreParametersOf d h ps 0 e.params) (fixed T.Colon (mark M.Colon) (fixed T.Result (word (codes "Result"))
         (node N.Type (type_tokens d ps e.result) (IsTypeOf d h ps e.result) (fixed T.Becomes (mark M.Becomes) (node N.FuelMatch fuel_match Nothing
-        (last N.Code (code_tokens d e.code) (IsCodeOf d h e.code)))))))))))) (IsDefinitionOf e) refl
-        (name_read d e.kind k.1, (implicit_parameters_read ps, (fuel_read, (parameters_read d h ps finds at 0 e.params l w.params,
-        (as_type d h ps e.result (type_read d h ps finds at e.result w.result), (match_read, code_read d h finds e.code w.code))))))
-        (λ ls us vs r g. (vs, (r, definition_of e vs.1.0 vs.1.1.0 vs.1.1.1.1.0 vs.1.1.1.1.1.1.1.0 vs.1.1.1.1.1.1.1.1.1.1.0 l
-            g.0 (kind_found d e.kind vs.1.0 h.functions g.0 place) g.1.0 g.1.1.1.0 g.1.1.1.1.0 g.1.1.1.1.1.1))))
+        (last N.Code (code_tokens d e.code) (IsCodeOf d h e.code)))))))))))) (IsDefinitionOf e) refl (
+          name_read d e.kind k.1,
+          (
+            implicit_parameters_read ps,
+            (
+              fuel_read,
+              (
+                parameters_read d h ps finds at 0 e.params l w.params,
+                (as_type d h ps e.result (type_read d h ps finds at e.result w.result), (match_read, code_read d h finds e.code w.code)),
+              ),
+            ),
+          ),
+        )
+        (λ ls us vs r g. (
+          vs,
+          (
+            r,
+            definition_of e vs.1.0 vs.1.1.0 vs.1.1.1.1.0 vs.1.1.1.1.1.1.1.0 vs.1.1.1.1.1.1.1.1.1.1.0 l
+                g.0 (kind_found d e.kind vs.1.0 h.functions g.0 place) g.1.0 g.1.1.1.0 g.1.1.1.1.0 g.1.1.1.1.1.1,
+          ),
+        )))
 
     pub definitions_read : (es : List Def) → Each (IsDefinition d) es → Each IsKnown es → Reading N.Definitions (flat_map (definition d) es) (All IsDefinitionOf es)
     definitions_read [] w k = produce N.Definitions 0 done (All IsDefinitionOf []) refl tt (λ ls us vs r g. (vs, (r, tt)))
@@ -141,9 +157,9 @@ module _ (d : Defs) (h : Outline) where
   definitions_keep types kinds (e ∷ es) (r ∷ rs) q t w g =
       let more = map (λ (e : Def). e.kind) es in
       let apart : AreApart types (texts r.type_parameters) =
-          subst (λ (ts : List (List ℕ)). AreApart ts (texts r.type_parameters)) (sym t) (subst (AreApart (type_names d)) (sym q.0.type_parameters) w.0.type_params.1) in
+      subst (λ (ts : List (List ℕ)). AreApart ts (texts r.type_parameters)) (sym t) (subst (AreApart (type_names d)) (sym q.0.type_parameters) w.0.type_params.1) in
       let differ : Differ (texts r.type_parameters) = subst Differ (sym q.0.type_parameters) w.0.type_params.0.1 in
       let rest = definitions_keep types (kinds ++ e.kind ∷ []) es rs q.1 t w.1 (differ_next kinds e.kind more g) in
       (λ i. ((numbers_keep d e.kind r.name q.0.name i ++ once_keeps (kind_of h.functions r.name) e.kind kinds (last_place r.name) q.0.kind (differ_before kinds e.kind more g) i)
-          ++ (parameters_keep types [] r.type_parameters apart differ i ++ q.0.parts i)) ++ definitions_faults h types (and_kind kinds (q.0.kind i)) rs)
+      ++ (parameters_keep types [] r.type_parameters apart differ i ++ q.0.parts i)) ++ definitions_faults h types (and_kind kinds (q.0.kind i)) rs)
       ∙ rest

@@ -1,10 +1,9 @@
 -- In what definitions declare each name is found that they use.
-use Rattle.std.proofs.Common.{◌≡◌, refl, ap, sym, subst, ◌∙◌, ℕ, zero, suc, ◌+◌, ◌<◌, Bool, true, false, List, [], ◌∷◌, ◌++◌, length, map, Option, Some, None, ◌⊎◌, inl, inr, arith}
-use Rattle.std.specs.Prelude.{◌==◌, ◌&&◌, if◌then◌else◌, slice_get}
+use Rattle.std.proofs.Common.{◌≡◌, refl, ap, sym, subst, ◌∙◌, ℕ, zero, suc, ◌<◌, Bool, true, false, List, [], ◌∷◌, length, map, Option, Some, None, inl, inr, arith}
+use Rattle.std.specs.Prelude.{◌==◌, ◌&&◌, slice_get}
 use Rattle.std.specs.Option.{option_map, option_and_then}
 use Rattle.std.proofs.lemmas.Bool.{eqb-true}
 use Rattle.aen_base.specs.declared.ids.TypeId.{TypeId}
-use Rattle.pure_ast.specs.declared.ctor.CtorId.{CtorId}
 use Rattle.pure_ast.specs.declared.ctor.CtorId.TheVariants.{Of}
 use Rattle.pure_ast.specs.declared.def.Def.{Def}
 use Rattle.pure_ast.specs.declared.def.Defs.{Defs}
@@ -15,7 +14,6 @@ use Rattle.text_meaning.specs.Lists.{Each, Differ}
 use Rattle.text_meaning.specs.Lookups.{Variant, parts_of, type_name, variant_name, function_name, parameter_name, or_empty}
 use Rattle.text_meaning.specs.WellFormed.{function_of, IsKind, AreInOrder, IsDefinition, IsWellFormed}
 use Rattle.text_meaning.specs.WellFormedTypes.{parameters_of, type_names, names_of, IsDeclaration, IsStructure, AreVariants, AreTypeParameters}
-use Rattle.raw_meaning.specs.declared.outline.DefinitionHead.{DefinitionHead}
 use Rattle.raw_meaning.specs.declared.outline.Outline.{Outline}
 use Rattle.raw_meaning.specs.declared.outline.TypeHead.{TypeHead}
 use Rattle.raw_meaning.specs.declared.outline.VariantHead.{VariantHead}
@@ -147,9 +145,6 @@ finds d w = record {
 pub record Places (d : Defs) (ps : List (List ℕ)) : Type 0 where
   pub parameters : (k : ℕ) → k < length ps → place_of ps (parameter_name ps k) ≡ Some k
   pub apart : (t n : ℕ) → parameters_of d t ≡ Some n → place_of ps (type_name d t) ≡ None
-
-pub no_parameters : (d : Defs) → Places d []
-no_parameters d = record { parameters = λ k h. absurd (omega arith); apart = λ t n h. refl }
 
 apart_by : (d : Defs) (ps : List (List ℕ)) (o : Option PType) (t n : ℕ) → slice_get d.types t ≡ o → Each (λ p. Each (λ other. p ≡ other → ⊥) (type_names d)) ps →
     option_map (λ (p : PType). length p.params) o ≡ Some n → place_of ps (or_empty (option_map (λ (p : PType). p.name) o)) ≡ None

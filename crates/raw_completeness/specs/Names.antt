@@ -1,9 +1,8 @@
 -- Names of definitions are read as they are spelled.
-use Rattle.std.proofs.Common.{◌≡◌, refl, ap, ◌∙◌, ℕ, ◌+◌, Bool, true, false, List, [], ◌∷◌, ◌++◌, Option, Some, None}
+use Rattle.std.proofs.Common.{◌≡◌, refl, ap, ◌∙◌, ℕ, List, [], ◌∷◌, ◌++◌, Option, Some, None}
 use Rattle.std.specs.Prelude.{codes, is_some}
 use Rattle.std.specs.Option.{option_map}
 use Rattle.std.specs.Fmt.{decimal}
-use Rattle.aen_base.specs.declared.span.Span.{Span}
 use Rattle.pure_ast.specs.declared.def.DefKind.{DefKind}
 use Rattle.pure_ast.specs.declared.def.DefKind.TheVariants as K
 use Rattle.pure_ast.specs.declared.def.Defs.{Defs}
@@ -24,7 +23,7 @@ use Rattle.raw_meaning.specs.Outlines.{place_of, part_number, kind_by, kind_of}
 use Rattle.raw_meaning.specs.Rules.{unless, name_number, name_numbers}
 use Rattle.raw_completeness.specs.Leaves.{Says, names, loops, backs}
 use Rattle.raw_completeness.specs.Numerals.{numbered_read}
-use Rattle.raw_completeness.specs.Rows.{Reading, Row, done, fixed, leaf, last, produce}
+use Rattle.raw_completeness.specs.Rows.{Reading, done, fixed, leaf, last, produce}
 
 -- the numbers in the name of a definition of this kind
 abbrev turn_of : DefKind → Option ℕ
@@ -94,11 +93,11 @@ end_read : (t b : Option ℕ) → IsSmallIf t → IsSmallIf b → Reading N.Name
 end_read None None v w = produce N.NameEnd 0 done (IsEndOf None None) refl tt (λ ls us vs r g. (vs, (r, ((refl, refl), (refl, refl)))))
 end_read None (Some c) v w =
     let part = produce N.NamePart 1 (leaf T.Back (word (back_text c)) (Says (back_text c)) done) (IsEndOf None (Some c)) refl (backs c w, tt)
-        (λ ls us vs r g. (vs, (r, ((refl, refl), part_of (codes "back") c (spelling_of vs.0) w g.0)))) in
+    (λ ls us vs r g. (vs, (r, ((refl, refl), part_of (codes "back") c (spelling_of vs.0) w g.0)))) in
     produce N.NameEnd 1 (fixed T.Dot (mark M.Dot) (last N.NamePart (word (back_text c) ∷ []) (IsEndOf None (Some c)))) (IsEndOf None (Some c)) refl part (λ ls us vs r g. (vs, (r, g)))
 end_read (Some k) b v w =
     let part = produce N.NamePart 0 (leaf T.LoopNumber (word (loop_text k)) (Says (loop_text k)) (last N.BackEnd (back_tokens b) (IsPartOf (codes "back") b))) (IsEndOf (Some k) b) refl
-        (loops k v, back_read b w) (λ ls us vs r g. (vs, (r, (part_of (codes "loop") k (spelling_of vs.0) v g.0, g.1)))) in
+    (loops k v, back_read b w) (λ ls us vs r g. (vs, (r, (part_of (codes "loop") k (spelling_of vs.0) v g.0, g.1)))) in
     produce N.NameEnd 1 (fixed T.Dot (mark M.Dot) (last N.NamePart (word (loop_text k) ∷ back_tokens b) (IsEndOf (Some k) b))) (IsEndOf (Some k) b) refl part (λ ls us vs r g. (vs, (r, g)))
 
 -- ---- names

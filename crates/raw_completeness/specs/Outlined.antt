@@ -1,19 +1,15 @@
 -- What is read of the text that definitions are spelled as declares what they declare.
-use Rattle.std.proofs.Common.{◌≡◌, refl, ap, sym, subst, ◌∙◌, ℕ, zero, suc, ◌+◌, ◌<◌, Bool, true, false, List, [], ◌∷◌, ◌++◌, append_assoc, append-nil, length, length-append, map, Option, Some, None, ◌⊎◌, inl, inr, arith}
+use Rattle.std.proofs.Common.{◌≡◌, refl, ap, sym, subst, ◌∙◌, ℕ, suc, ◌<◌, Bool, List, [], ◌∷◌, ◌++◌, append_assoc, append-nil, length, length-append, map, Option, Some, inl, inr, arith}
 use Rattle.std.specs.Prelude.{if◌then◌else◌, is_some, slice_get}
 use Rattle.pure_ast.specs.declared.def.Def.{Def}
 use Rattle.pure_ast.specs.declared.def.Defs.{Defs}
-use Rattle.pure_ast.specs.declared.def.PType.{PType}
-use Rattle.text_meaning.specs.Lists.{Each, Differ}
+use Rattle.text_meaning.specs.Lists.{Differ}
 use Rattle.text_meaning.specs.Lookups.{function_name, or_empty}
 use Rattle.text_meaning.specs.WellFormed.{function_of, AreInOrder, IsWellFormed}
 use Rattle.raw_ast.specs.declared.declarations.Declaration.{Declaration}
 use Rattle.raw_ast.specs.declared.declarations.Definition.{Definition}
-use Rattle.raw_ast.specs.declared.declarations.RawText.{RawText}
-use Rattle.raw_meaning.specs.declared.outline.DefinitionHead.{DefinitionHead}
-use Rattle.raw_meaning.specs.declared.outline.Outline.{Outline}
 use Rattle.raw_meaning.specs.Heads.{head_of_type, head_of_definition, declared_by}
-use Rattle.raw_meaning.specs.Outlines.{place_of, is_in, type_head, with_function, functions_after, with_head, definition_heads, outline_of}
+use Rattle.raw_meaning.specs.Outlines.{place_of, type_head, with_function, functions_after, with_head, definition_heads, outline_of}
 use Rattle.raw_completeness.specs.Declarations.{IsDeclarationOf}
 use Rattle.raw_completeness.specs.Definitions.{IsDefinitionOf}
 use Rattle.raw_completeness.specs.Finding.{least}

@@ -1,8 +1,7 @@
 -- Type parameters, fields and parameters are read as they are spelled.
-use Rattle.std.proofs.Common.{◌≡◌, refl, ap, sym, subst, ◌∙◌, ℕ, suc, ◌+◌, ◌<◌, ◌≤◌, ◌^◌, Bool, true, false, List, [], ◌∷◌, ◌++◌, append_assoc, length, map, Option, Some, None, arith}
-use Rattle.std.specs.Prelude.{◌==◌, ◌||◌, not, codes}
+use Rattle.std.proofs.Common.{◌≡◌, refl, ap, sym, subst, ◌∙◌, ℕ, suc, ◌+◌, ◌≤◌, ◌^◌, Bool, List, [], ◌∷◌, ◌++◌, append_assoc, length, map, Some, arith}
+use Rattle.std.specs.Prelude.{◌||◌, not, codes}
 use Rattle.std.specs.List.{flat_map}
-use Rattle.aen_base.specs.declared.span.Span.{Span}
 use Rattle.pure_ast.specs.declared.def.Defs.{Defs}
 use Rattle.pure_ast.specs.Types.{PTy}
 use Rattle.text_meaning.specs.declared.mark.Mark.TheVariants as M
@@ -18,14 +17,14 @@ use Rattle.raw_ast.specs.declared.spelling.Spelling.{Spelling}
 use Rattle.raw_ast.specs.Types.{RawType}
 use Rattle.raw_reader.specs.Ways.{spelled as spelling_of}
 use Rattle.raw_meaning.specs.declared.outline.Outline.{Outline}
-use Rattle.raw_meaning.specs.Faults.{type_faults, texts, parameters_faults, fields_faults, values_faults}
+use Rattle.raw_meaning.specs.Faults.{texts, parameters_faults, fields_faults, values_faults}
 use Rattle.raw_meaning.specs.Numbers.{numbered}
 use Rattle.raw_meaning.specs.Rules.{unless, is_number}
 use Rattle.raw_completeness.specs.Finding.{Finds, Places}
 use Rattle.raw_completeness.specs.Leaves.{Says, names, variables}
 use Rattle.raw_completeness.specs.Lists.{each_so, not_in, same_number}
 use Rattle.raw_completeness.specs.Numerals.{numbered_read}
-use Rattle.raw_completeness.specs.Relating.{All, each_front, differ_before, differ_next}
+use Rattle.raw_completeness.specs.Relating.{All, differ_before, differ_next}
 use Rattle.raw_completeness.specs.Rows.{Reading, done, fixed, leaf, node, last, produce}
 use Rattle.raw_completeness.specs.Types.{IsTypeOf, as_type, type_read}
 

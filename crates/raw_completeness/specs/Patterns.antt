@@ -1,5 +1,5 @@
 -- Patterns are read as they are spelled.
-use Rattle.std.proofs.Common.{◌≡◌, refl, ap, sym, ◌∙◌, ℕ, suc, ◌+◌, ◌≤◌, Bool, true, false, List, [], ◌∷◌, ◌++◌, length, map, Option, Some, None, arith}
+use Rattle.std.proofs.Common.{◌≡◌, refl, ap, ◌∙◌, ℕ, suc, Bool, true, false, List, [], ◌∷◌, ◌++◌, length, map, Option, Some, arith}
 use Rattle.std.specs.Prelude.{codes}
 use Rattle.std.specs.List.{flat_map}
 use Rattle.std.specs.Option.{option_map}
@@ -31,7 +31,7 @@ use Rattle.raw_completeness.specs.Atoms.{IsVariableOf, variable_of, IsTruth, tru
 use Rattle.raw_completeness.specs.Constructors.{IsConstructorOf, constructor_read}
 use Rattle.raw_completeness.specs.Finding.{Finds}
 use Rattle.raw_completeness.specs.Leaves.{Says, variables}
-use Rattle.raw_completeness.specs.Rows.{Reading, Row, done, fixed, leaf, node, last, produce}
+use Rattle.raw_completeness.specs.Rows.{Reading, done, fixed, leaf, node, last, produce}
 
 -- variables as they are spelled have these numbers
 abbrev AreVariablesOf : List ℕ → List Spelling → Type 0
@@ -66,9 +66,10 @@ module _ (d : Defs) (h : Outline) where
   built_of : (c : CtorId) (vs : List ℕ) (k : Constructor) (ss : List Spelling) → parts_of d c ≡ Some (length vs) → IsConstructorOf d h c k → AreVariablesOf vs ss →
       IsPatternOf (P.Ctor c vs) (R.Built k ss)
   built_of c vs k ss w p q =
-      let r = p (length vs) w in
-      ((λ i. both (λ k vs. P.Ctor k vs) (constructor_id h k (q.1.1 i)) (q.0 i)) ∙ ap (λ (o : Option CtorId). both (λ k vs. P.Ctor k vs) o (Some vs)) r.0,
-       (λ i. rule.constructor h k (q.1.1 i) ++ q.1.0 i) ∙ ap (λ (spans : List Span). spans ++ []) r.1)
+      let r = p (length vs) w in (
+        (λ i. both (λ k vs. P.Ctor k vs) (constructor_id h k (q.1.1 i)) (q.0 i)) ∙ ap (λ (o : Option CtorId). both (λ k vs. P.Ctor k vs) o (Some vs)) r.0,
+        (λ i. rule.constructor h k (q.1.1 i) ++ q.1.0 i) ∙ ap (λ (spans : List Span). spans ++ []) r.1,
+      )
 
   module _ (finds : Finds d h) where
     pub pattern_read : (p : Pat) → IsPattern d p → Reading N.Pattern (pat_tokens d p) (IsPatternOf p)
@@ -82,9 +83,15 @@ module _ (d : Defs) (h : Outline) where
         produce N.Pattern 1 (fixed T.OpenBracket (mark M.Open) (leaf T.Variable (var_token v) (Says (var_text v)) (fixed T.Comma (mark M.Comma)
         (leaf T.Variable (var_token u) (Says (var_text u)) (last N.PatternParts (parts_tokens vs) (AreVariablesOf vs)))))) (IsPatternOf (P.Tuple (v ∷ u ∷ vs))) refl
         (variables v w.1.0, (variables u w.1.1.0, parts_read vs w.1.1.1))
-        (λ ls us xs r g. (xs, (r, tuple_of (v ∷ u ∷ vs) (spelling_of xs.1.0 ∷ spelling_of xs.1.1.1.0 ∷ xs.1.1.1.1.0)
-            (more_of v (u ∷ vs) (spelling_of xs.1.0) (spelling_of xs.1.1.1.0 ∷ xs.1.1.1.1.0) (variable_of v (spelling_of xs.1.0) w.1.0 g.0)
-            (more_of u vs (spelling_of xs.1.1.1.0) xs.1.1.1.1.0 (variable_of u (spelling_of xs.1.1.1.0) w.1.1.0 g.1.0) g.1.1)))))
+        (λ ls us xs r g. (
+          xs,
+          (
+            r,
+            tuple_of (v ∷ u ∷ vs) (spelling_of xs.1.0 ∷ spelling_of xs.1.1.1.0 ∷ xs.1.1.1.1.0)
+                (more_of v (u ∷ vs) (spelling_of xs.1.0) (spelling_of xs.1.1.1.0 ∷ xs.1.1.1.1.0) (variable_of v (spelling_of xs.1.0) w.1.0 g.0)
+                (more_of u vs (spelling_of xs.1.1.1.0) xs.1.1.1.1.0 (variable_of u (spelling_of xs.1.1.1.0) w.1.1.0 g.1.0) g.1.1)),
+          ),
+        ))
     pattern_read (P.Ctor c vs) w =
         produce N.Pattern 2 (node N.Constructor (ctor_tokens d c) (IsConstructorOf d h c) (last N.Variables (map var_token vs) (AreVariablesOf vs))) (IsPatternOf (P.Ctor c vs)) refl
         (constructor_read d h finds c, variables_read vs w.1) (λ ls us xs r g. (xs, (r, built_of c vs xs.0 xs.1.0 w.0 g.0 g.1)))

@@ -1,5 +1,5 @@
 -- Primitives are read as they are spelled.
-use Rattle.std.proofs.Common.{◌≡◌, refl, ap, sym, subst, ◌∙◌, ℕ, Bool, true, false, List, [], ◌∷◌, Option, Some, None, ◌⊎◌, inl, inr}
+use Rattle.std.proofs.Common.{◌≡◌, refl, ap, sym, subst, ◌∙◌, ℕ, true, List, [], ◌∷◌, Option, Some, None, ◌⊎◌, inl, inr}
 use Rattle.std.specs.Prelude.{codes}
 use Rattle.aen_base.specs.declared.ids.RegionId.{RegionId}
 use Rattle.aen_base.specs.declared.int_ty.IntTy.{IntTy}
@@ -14,7 +14,7 @@ use Rattle.pure_ast.specs.declared.comp.BoolOp.TheVariants as O
 use Rattle.pure_ast.specs.declared.comp.Primitive.{Primitive}
 use Rattle.pure_ast.specs.declared.comp.Primitive.TheVariants as P
 use Rattle.text_meaning.specs.declared.mark.Mark.TheVariants as M
-use Rattle.text_meaning.specs.Ranges.{IsLentBy, IsPrimitive}
+use Rattle.text_meaning.specs.Ranges.{IsPrimitive}
 use Rattle.text_meaning.specs.SpelledNames.{prim_tokens, dotted}
 use Rattle.text_meaning.specs.Tokens.{Token, word, mark, back_text}
 use Rattle.text_meaning.specs.Words.{int_word, arith_word, compare_word, bool_word}
@@ -24,10 +24,10 @@ use Rattle.text_table.specs.declared.terminal.Terminal.TheVariants as T
 use Rattle.text_syntax.specs.Classing.{class_of, class_of_word}
 use Rattle.raw_ast.specs.declared.computation.Operation.{Operation}
 use Rattle.raw_reader.specs.Ways.{in_memory, replace_back as replace_back_of}
-use Rattle.raw_reader.specs.Words.{int_of, int_primitive, bool_primitive}
+use Rattle.raw_reader.specs.Words.{int_primitive, bool_primitive}
 use Rattle.raw_completeness.specs.Classes.{fits, fitting, is_the_word}
 use Rattle.raw_completeness.specs.Leaves.{IsInt, ints, Any, back_zeros, back_ones}
-use Rattle.raw_completeness.specs.Rows.{Reading, Row, done, fixed, leaf, last, produce}
+use Rattle.raw_completeness.specs.Rows.{Reading, done, fixed, leaf, last, produce}
 
 -- what was read is this primitive
 abbrev pub IsOperationOf : Primitive → Operation → Type 0

@@ -1,9 +1,8 @@
 -- A production with what its symbols are spelled as: where each of them is read, so is what the production makes.
-use Rattle.std.proofs.Common.{◌≡◌, refl, ap, sym, subst, ◌∙◌, ℕ, zero, suc, Bool, true, false, List, [], ◌∷◌, ◌++◌, map, ◌⊎◌, inl, inr}
+use Rattle.std.proofs.Common.{◌≡◌, refl, ap, subst, ℕ, zero, suc, Bool, true, List, [], ◌∷◌, ◌++◌, map, inl, inr}
 use Rattle.std.specs.Prelude.{◌&&◌, if◌then◌else◌}
 use Rattle.table_reader.specs.declared.symbol.Symbol.{Symbol}
 use Rattle.table_reader.specs.declared.symbol.Symbol.TheVariants as S
-use Rattle.table_reader.specs.declared.take.Take.{Take}
 use Rattle.table_reader.specs.declared.take.Take.TheVariants as K
 use Rattle.table_reader.specs.Derivations.{IsOneOf}
 use Rattle.table_reader.specs.Reading.{Made, Parts, Reads, ReadsAll, by, nothing, token, part}

@@ -1,5 +1,5 @@
 -- The lexemes of a text of well-formed definitions are read as a text that stands for them and breaks no rule (TEXT.md, "Reading").
-use Rattle.std.proofs.Common.{◌≡◌, refl, ap, sym, subst, ◌∙◌, ℕ, zero, suc, List, [], ◌∷◌, ◌++◌, map, Option, Some}
+use Rattle.std.proofs.Common.{◌≡◌, refl, ◌∙◌, ℕ, zero, suc, List, [], ◌∷◌, ◌++◌, map, Some}
 use Rattle.std.specs.Prelude.{codes, slice_get}
 use Rattle.std.specs.List.{flat_map}
 use Rattle.pure_ast.specs.declared.def.Def.{Def}
@@ -9,8 +9,6 @@ use Rattle.text_meaning.specs.Lists.{Each}
 use Rattle.text_meaning.specs.Spelled.{type_declaration, definition, tokens_of}
 use Rattle.text_meaning.specs.Tokens.{word}
 use Rattle.text_meaning.specs.WellFormed.{IsWellFormed}
-use Rattle.text_tokens.specs.Stands.{AllStand}
-use Rattle.text_tokens.specs.declared.lexeme.Lexeme.{Lexeme as Spelled}
 use Rattle.text_table.specs.declared.part.Part.TheVariants as N
 use Rattle.text_table.specs.declared.terminal.Terminal.TheVariants as T
 use Rattle.raw_ast.specs.declared.declarations.Declaration.{Declaration}
@@ -43,11 +41,12 @@ text_of d ts rs w p q =
     let same : outline_of r ≡ h = outline_same d ts rs w p q in
     let types : each (declaration_tree h) ts ≡ Some d.types = all_each (IsDeclarationOf d h) (declaration_tree h) (λ t x g. g.tree) d.types ts p in
     let defs : each (definition_tree h) rs ≡ Some d.defs = all_each (IsDefinitionOf d h) (definition_tree h) (λ e x g. g.tree) d.defs rs q in
-    let names : type_names ts ≡ map (λ (t : PType). t.name) d.types = all_map (IsDeclarationOf d h) (λ (x : Declaration). x.name.text) (λ (t : PType). t.name) (λ t x g. g.named) d.types ts p in
-    ((λ i. definitions_in (same i) r)
-     ∙ (λ i. both (λ (xs : List PType) (ys : List Def). record { types = xs; names = d.names; defs = ys }) (types i) (defs i)),
-     (λ i. text_faults_in (same i) r)
-     ∙ (λ i. declarations_keep d h [] [] d.types ts p refl w.types_named.1 tt w.types i ++ definitions_keep d h (type_names ts) [] d.defs rs q names w.definitions w.kinds i))
+    let names : type_names ts ≡ map (λ (t : PType). t.name) d.types = all_map (IsDeclarationOf d h) (λ (x : Declaration). x.name.text) (λ (t : PType). t.name) (λ t x g. g.named) d.types ts p in (
+      (λ i. definitions_in (same i) r)
+          ∙ (λ i. both (λ (xs : List PType) (ys : List Def). record { types = xs; names = d.names; defs = ys }) (types i) (defs i)),
+      (λ i. text_faults_in (same i) r)
+          ∙ (λ i. declarations_keep d h [] [] d.types ts p refl w.types_named.1 tt w.types i ++ definitions_keep d h (type_names ts) [] d.defs rs q names w.definitions w.kinds i),
+    )
 
 -- the tokens of well-formed definitions are read as a text that stands for them
 pub text_read : (d : Defs) → IsWellFormed d → Reading N.Text (tokens_of d) (IsTextOf d)

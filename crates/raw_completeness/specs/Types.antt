@@ -1,8 +1,7 @@
 -- Types are read as they are spelled.
-use Rattle.std.proofs.Common.{◌≡◌, refl, ap, sym, subst, ◌∙◌, ℕ, zero, suc, ◌+◌, ◌<◌, ◌≤◌, Bool, true, false, List, [], ◌∷◌, ◌++◌, append_assoc, length, Option, Some, None, ◌⊎◌, inl, inr, arith}
+use Rattle.std.proofs.Common.{◌≡◌, refl, ap, sym, subst, ◌∙◌, ℕ, suc, ◌<◌, Bool, true, List, [], ◌∷◌, ◌++◌, append_assoc, length, Option, Some, None, ◌⊎◌, inl, inr, arith}
 use Rattle.std.specs.Prelude.{◌==◌, if◌then◌else◌, codes, is_some}
 use Rattle.std.specs.Option.{option_map}
-use Rattle.aen_base.specs.declared.span.Span.{Span}
 use Rattle.aen_base.specs.declared.int_ty.IntTy.{IntTy}
 use Rattle.pure_ast.specs.declared.def.Defs.{Defs}
 use Rattle.pure_ast.specs.Types as ty
@@ -83,16 +82,18 @@ module _ (d : Defs) (h : Outline) (ps : List (List ℕ)) where
     named_of k xs s vs w e q =
         let n = length (ptys_list xs) in
         let no : place_of ps s.text ≡ None = ap (place_of ps) e ∙ places.apart k n w in
-        let found : type_of h s.text ≡ Some (k, n) = ap (type_of h) e ∙ finds.types k n w in
-        ((λ i. named_by (no i) (found i) (q.1.1 i) (q.0 i)) ∙ ap (λ (b : Bool). both (λ k ts. ty.named k ts) (if b then Some k else None) (Some xs)) (same_number n),
-         (λ i. (if is_some (no i) then unless (q.1.1 i == 0) s.span else unless_parts (found i) (q.1.1 i) s.span) ++ q.1.0 i)
-         ∙ ap (λ (b : Bool). unless b s.span ++ []) (same_number n))
+        let found : type_of h s.text ≡ Some (k, n) = ap (type_of h) e ∙ finds.types k n w in (
+          (λ i. named_by (no i) (found i) (q.1.1 i) (q.0 i)) ∙ ap (λ (b : Bool). both (λ k ts. ty.named k ts) (if b then Some k else None) (Some xs)) (same_number n),
+          (λ i. (if is_some (no i) then unless (q.1.1 i == 0) s.span else unless_parts (found i) (q.1.1 i) s.span) ++ q.1.0 i)
+              ∙ ap (λ (b : Bool). unless b s.span ++ []) (same_number n),
+        )
 
     parameter_of : (k : ℕ) (s : Spelling) → k < length ps → s.text ≡ parameter_name ps k → IsTypeOf (parameter k) (t.named s t.no_rawtypes)
     parameter_of k s w e =
-        let there : place_of ps s.text ≡ Some k = ap (place_of ps) e ∙ places.parameters k w in
-        (ap (λ (o : Option ℕ). named_by o (type_of h s.text) 0 (Some no_ptys)) there,
-         ap (λ (o : Option ℕ). (if is_some o then unless (0 == 0) s.span else unless_parts (type_of h s.text) 0 s.span) ++ []) there)
+        let there : place_of ps s.text ≡ Some k = ap (place_of ps) e ∙ places.parameters k w in (
+          ap (λ (o : Option ℕ). named_by o (type_of h s.text) 0 (Some no_ptys)) there,
+          ap (λ (o : Option ℕ). (if is_some o then unless (0 == 0) s.span else unless_parts (type_of h s.text) 0 s.span) ++ []) there,
+        )
 
     -- ---- types by their forms
 
@@ -116,15 +117,15 @@ module _ (d : Defs) (h : Outline) (ps : List (List ℕ)) where
         let n = type_name d k in
         let Rest : AfterTypeName → Type 0 = IsAfter (λ vs. after.Arguments vs) (more_ptys x xs) in
         let rest = produce N.AfterTypeName 0 (node N.Type (type_tokens d ps x) (IsTypeOf x) (last N.TypeArguments (arguments_tokens xs) (AreTypesOf xs)))
-            Rest refl (as_type x p, q) (λ ls us vs r g. (vs, (r, (vs.0 ∷ vs.1.0, (refl, more_of x xs vs.0 vs.1.0 g.0 g.1))))) in
+        Rest refl (as_type x p, q) (λ ls us vs r g. (vs, (r, (vs.0 ∷ vs.1.0, (refl, more_of x xs vs.0 vs.1.0 g.0 g.1))))) in
         bracketed (named k (more_ptys x xs)) 2 (leaf T.Name (id n) (Says n) (last N.AfterTypeName (type_tokens d ps x ++ arguments_tokens xs) Rest)) refl (names n, rest)
-            (λ ls us vs r g. (vs, (r, after_named k (more_ptys x xs) (spelling_of vs.0) (after_name vs.0) vs.1.0 w g.0 (λ vs. refl) g.1)))
+        (λ ls us vs r g. (vs, (r, after_named k (more_ptys x xs) (spelling_of vs.0) (after_name vs.0) vs.1.0 w g.0 (λ vs. refl) g.1)))
 
     exit_read : (x y : PTy) → ReadType x → ReadType y → Reading N.OtherType (type_tokens d ps (exit x y)) (IsTypeOf (exit x y))
     exit_read x y p q =
         bracketed (exit x y) 1
-            (fixed T.Exit (word (codes "Exit")) (node N.Type (type_tokens d ps x) (IsTypeOf x) (node N.Type (type_tokens d ps y) (IsTypeOf y) (fixed T.CloseBracket (mark Close) done))))
-            refl (as_type x p, (as_type y q, tt)) (λ ls us vs r g. (vs, (r, exit_of x y vs.1.0 vs.1.1.0 g.0 g.1.0)))
+        (fixed T.Exit (word (codes "Exit")) (node N.Type (type_tokens d ps x) (IsTypeOf x) (node N.Type (type_tokens d ps y) (IsTypeOf y) (fixed T.CloseBracket (mark Close) done))))
+        refl (as_type x p, (as_type y q, tt)) (λ ls us vs r g. (vs, (r, exit_of x y vs.1.0 vs.1.1.0 g.0 g.1.0)))
 
     -- `×` and a type, before others
     factor_tokens : (x : PTy) (xs : PTys) → mark Times ∷ (type_tokens d ps x ++ factors_tokens xs) ≡ factors_tokens (more_ptys x xs)
@@ -146,11 +147,11 @@ module _ (d : Defs) (h : Outline) (ps : List (List ℕ)) where
     product_read x y more (inl p) q m =
         let Rest : AfterTypeName → Type 0 = IsAfter (λ vs. after.Factors vs) (more_ptys y more) in
         let rest = produce N.AfterTypeName 1 (factor_row y more) Rest refl (as_type y q, m)
-            (λ ls us vs r g. (vs, (r, (vs.1.0 ∷ vs.1.1.0, (refl, more_of y more vs.1.0 vs.1.1.0 g.0 g.1))))) in
+        (λ ls us vs r g. (vs, (r, (vs.1.0 ∷ vs.1.1.0, (refl, more_of y more vs.1.0 vs.1.1.0 g.0 g.1))))) in
         subst (λ (ts : List Token). Reading N.TypeInBrackets (ts ++ mark Times ∷ (type_tokens d ps y ++ factors_tokens more)) (IsTypeOf (product (more_ptys x (more_ptys y more))))) (sym p.1.0)
         (produce N.TypeInBrackets 2 (leaf T.Name (id p.0) (Says p.0) (last N.AfterTypeName (mark Times ∷ (type_tokens d ps y ++ factors_tokens more)) Rest))
-            (IsTypeOf (product (more_ptys x (more_ptys y more)))) refl (names p.0, rest)
-            (λ ls us vs r g. (vs, (r, after_product x (more_ptys y more) vs.0 vs.1.0 (p.1.1 (spelling_of vs.0) g.0) g.1))))
+        (IsTypeOf (product (more_ptys x (more_ptys y more)))) refl (names p.0, rest)
+        (λ ls us vs r g. (vs, (r, after_product x (more_ptys y more) vs.0 vs.1.0 (p.1.1 (spelling_of vs.0) g.0) g.1))))
 
     mutual
       pub type_read : (x : PTy) → IsType d (length ps) x → ReadType x

@@ -1,17 +1,14 @@
 -- Variants are read as they are spelled.
-use Rattle.std.proofs.Common.{◌≡◌, refl, ap, sym, subst, ◌∙◌, ℕ, suc, ◌+◌, Bool, true, false, List, [], ◌∷◌, ◌++◌, append_assoc, length, map, Option, Some, None, ◌⊎◌, inl, inr}
-use Rattle.std.specs.Prelude.{◌==◌, ◌&&◌, not, codes, bytes_eq}
+use Rattle.std.proofs.Common.{◌≡◌, refl, ap, sym, subst, ◌∙◌, ℕ, suc, List, [], ◌∷◌, ◌++◌, append_assoc, length, map, Some, inl, inr}
+use Rattle.std.specs.Prelude.{◌==◌, ◌&&◌, not, bytes_eq}
 use Rattle.std.specs.List.{flat_map}
 use Rattle.std.specs.Option.{option_map}
-use Rattle.std.specs.Fmt.{decimal}
-use Rattle.aen_base.specs.declared.span.Span.{Span}
 use Rattle.pure_ast.specs.declared.def.Defs.{Defs}
-use Rattle.pure_ast.specs.declared.def.PType.{PType}
 use Rattle.pure_ast.specs.Types.{PTy}
 use Rattle.text_meaning.specs.declared.mark.Mark.TheVariants as M
 use Rattle.text_meaning.specs.Lists.{Each, Differ}
 use Rattle.text_meaning.specs.Lookups.{Variant as NamedFields}
-use Rattle.text_meaning.specs.Spelled.{plain_field, variant_tokens}
+use Rattle.text_meaning.specs.Spelled.{plain_field}
 use Rattle.text_meaning.specs.SpelledTypes.{type_tokens}
 use Rattle.text_meaning.specs.Tokens.{Token, id, mark}
 use Rattle.text_meaning.specs.WellFormedTypes.{IsType, AreNumbered, names_of}
@@ -25,20 +22,20 @@ use Rattle.raw_ast.specs.Types.{RawType}
 use Rattle.raw_values.specs.declared.rests.AfterName.{AfterName}
 use Rattle.raw_values.specs.declared.rests.AfterName.TheVariants as after
 use Rattle.raw_values.specs.declared.rests.VariantRest.{VariantRest}
-use Rattle.raw_reader.specs.Ways.{spelled as spelling_of, name_first, field_first}
+use Rattle.raw_reader.specs.Ways.{spelled as spelling_of, name_first}
 use Rattle.raw_meaning.specs.declared.outline.Outline.{Outline}
 use Rattle.raw_meaning.specs.Faults.{type_faults, texts, variant_faults, variants_faults}
 use Rattle.raw_meaning.specs.Heads.{head_of_variant}
 use Rattle.raw_meaning.specs.Outlines.{variant_head}
-use Rattle.raw_meaning.specs.Rules.{unless, end_names, variant_end}
+use Rattle.raw_meaning.specs.Rules.{unless, end_names}
 use Rattle.raw_meaning.specs.Trees.{type_tree, variant_tree, numbered_fields, each, both}
 use Rattle.raw_completeness.specs.Finding.{Finds, Places}
 use Rattle.raw_completeness.specs.Leaves.{Says, names}
 use Rattle.raw_completeness.specs.Lists.{not_in, same_number, same_bytes}
 use Rattle.raw_completeness.specs.Parameters.{AreNamesOf, names_read}
-use Rattle.raw_completeness.specs.Relating.{All, all_each, all_length, differ_before, differ_next}
+use Rattle.raw_completeness.specs.Relating.{All, all_length, differ_before, differ_next}
 use Rattle.raw_completeness.specs.Rows.{Reading, done, fixed, leaf, node, last, produce}
-use Rattle.raw_completeness.specs.Types.{IsTypeOf, IsNameOf, ReadType, type_read}
+use Rattle.raw_completeness.specs.Types.{IsTypeOf, ReadType, type_read}
 
 -- ---- a variant's end
 

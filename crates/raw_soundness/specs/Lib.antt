@@ -15,3 +15,4 @@ pub mod AtomsSpelled
 pub mod CodeSpelled
 pub mod DeclarationsSpelled
 pub mod DefinitionsSpelled
+pub mod Sound

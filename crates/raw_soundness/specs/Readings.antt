@@ -12,7 +12,7 @@ use Rattle.text_meaning.specs.Names.{IsName}
 use Rattle.text_tokens.specs.declared.lexeme.LexemeKind.{LexemeKind}
 use Rattle.text_tokens.specs.declared.lexeme.LexemeKind.TheVariants.{Word, Marked, Number, Punct}
 use Rattle.text_tokens.specs.declared.lexeme.Lexeme.{Lexeme as Spelled}
-use Rattle.text_tokens.specs.Stands.{Stands}
+use Rattle.text_tokens.specs.Lexing.{BearsName}
 use Rattle.text_table.specs.declared.lexeme.Lexeme.{Lexeme}
 use Rattle.text_table.specs.declared.part.Part.{Part}
 use Rattle.text_table.specs.declared.terminal.Terminal.{Terminal}
@@ -68,20 +68,16 @@ AllMeet (w ∷ ws) [] = ⊥
 AllMeet (w ∷ ws) (l ∷ ls) = Meets w l.kind × AllMeet ws ls
 
 -- what stands between marks is a name
-abbrev pub IsNamedKind : LexemeKind → Type 0
-IsNamedKind (Marked n) = IsName n
-IsNamedKind k = Unit {0}
+abbrev pub BearsNames : List Spelled → Type 0
+BearsNames ls = Each (λ (l : Spelled). BearsName l.kind) ls
 
-abbrev pub IsNamedLexeme : Spelled → Type 0
-IsNamedLexeme l = IsNamedKind l.kind
-
-name_of : (k : LexemeKind) → has_class T.Name (class_of k) ≡ true → IsNamedKind k → IsName (text_of k)
+name_of : (k : LexemeKind) → has_class T.Name (class_of k) ≡ true → BearsName k → IsName (text_of k)
 name_of (Word w) h g = bare_name w (is_id (Word w) h).1
 name_of (Marked n) h g = g
 name_of (Number s) h g = absurd (is_id (Number s) h)
 name_of (Punct m) h g = absurd (is_id (Punct m) h)
 
-name_if_id : (t : Terminal) (l : Spelled) → has_class t (class_of l.kind) ≡ true → IsNamedKind l.kind → IsNameIfId t (lexeme_of l)
+name_if_id : (t : Terminal) (l : Spelled) → has_class t (class_of l.kind) ≡ true → BearsName l.kind → IsNameIfId t (lexeme_of l)
 name_if_id T.Name l h g = name_of l.kind h g
 name_if_id t l h g = tt
 
@@ -102,20 +98,20 @@ not_a_front false x y h = cc
 pub record IsRead (n : Part) (v : carrier n) (us : List Lexeme) (xs : List Spelled) : Type 0 where
   pub left : List Spelled
   pub same : map lexeme_of left ≡ us
-  pub named : Each IsNamedLexeme left
+  pub named : BearsNames left
   pub shaped : IsShaped n v
   pub meets : (rest : Wants) → AllMeet rest left → AllMeet (wants n v rest) xs
 
 pub record AreRead (p : List (Symbol Terminal Part)) (vs : Values p) (us : List Lexeme) (xs : List Spelled) : Type 0 where
   pub left : List Spelled
   pub same : map lexeme_of left ≡ us
-  pub named : Each IsNamedLexeme left
+  pub named : BearsNames left
   pub taken : AreTaken p vs
   pub meets : (rest : Wants) → AllMeet rest left → AllMeet (all_wants p vs rest) xs
 
 -- a token before symbols that are read
 token_read : (t : Terminal) (p : List (Symbol Terminal Part)) (us : List Lexeme) (vs : Values p) (x : Spelled) (xs : List Spelled) (l : Lexeme) → lexeme_of x ≡ l →
-    has_class t l.class ≡ true → IsNamedLexeme x → AreRead p vs us xs → AreRead (S.Token t ∷ p) (l, vs) us (x ∷ xs)
+    has_class t l.class ≡ true → BearsName x.kind → AreRead p vs us xs → AreRead (S.Token t ∷ p) (l, vs) us (x ∷ xs)
 token_read t p us vs x xs l e h g s =
     subst (λ (y : Lexeme). AreRead (S.Token t ∷ p) (y, vs) us (x ∷ xs)) e
     (let k : has_class t (class_of x.kind) ≡ true = ap (λ (y : Lexeme). has_class t y.class) e ∙ h in
@@ -129,7 +125,7 @@ token_read t p us vs x xs l e h g s =
 
 module _ (kept : (n : Part) → OfEach n (IsKept n) (made n)) (spelled : (n : Part) → OfEach n (IsSpelled n) (made n)) where
   mutual
-    pub part_read : (n : Part) (ls us : List Lexeme) (v : carrier n) (xs : List Spelled) → Reads n ls us v → map lexeme_of xs ≡ ls → Each IsNamedLexeme xs → IsRead n v us xs
+    pub part_read : (n : Part) (ls us : List Lexeme) (v : carrier n) (xs : List Spelled) → Reads n ls us v → map lexeme_of xs ≡ ls → BearsNames xs → IsRead n v us xs
     part_read n ls us _ xs (R.by m one vs r) e g =
         let s = all_read m.symbols ls us vs xs r e g in
         record {
@@ -140,7 +136,7 @@ module _ (kept : (n : Part) → OfEach n (IsKept n) (made n)) (spelled : (n : Pa
           meets = λ rest h. subst (λ (w : Wants). AllMeet w xs) (sym (of_one n (IsSpelled n) m (made n) (spelled n) one vs s.taken rest)) (s.meets rest h);
         }
 
-    pub all_read : (p : List (Symbol Terminal Part)) (ls us : List Lexeme) (vs : Values p) (xs : List Spelled) → ReadsAll p ls us vs → map lexeme_of xs ≡ ls → Each IsNamedLexeme xs →
+    pub all_read : (p : List (Symbol Terminal Part)) (ls us : List Lexeme) (vs : Values p) (xs : List Spelled) → ReadsAll p ls us vs → map lexeme_of xs ≡ ls → BearsNames xs →
         AreRead p vs us xs
     all_read [] ls us _ xs R.nothing e g = record { left = xs; same = e; named = g; taken = tt; meets = λ rest h. h }
     all_read (S.Token t ∷ p) (l ∷ ls) us _ [] (R.token {vs} a r) e g = absurd cc

@@ -1,7 +1,7 @@
 -- Classes that are among others.
 use Rattle.std.specs.Prelude.{◌≡◌, refl, Bool, true, false, not, ◌&&◌, ◌||◌, List, [], ◌∷◌, ◌++◌}
 use Rattle.std.specs.List.{list_any, list_all}
-use Rattle.std.proofs.Common.{ap, sym, ◌∙◌, subst}
+use Rattle.std.proofs.Common.{sym, subst}
 use denote.Enum.Bare.{sameb, same_true, true_same}
 use Rattle.text_meaning.specs.Lists.{Each}
 use Rattle.text_table.specs.contracts.class.Class.{the_type}

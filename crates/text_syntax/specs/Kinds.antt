@@ -1,8 +1,8 @@
 -- The classes that lexemes of a kind can have (TEXT.md, "Tokens").
-use Rattle.std.specs.Prelude.{◌≡◌, refl, ℕ, Bool, true, false, not, ◌||◌, if◌then◌else◌, List, [], ◌∷◌, ◌++◌, Option, Some, None, codes, bytes_eq}
+use Rattle.std.specs.Prelude.{◌≡◌, refl, ℕ, Bool, true, false, not, if◌then◌else◌, List, [], ◌∷◌, ◌++◌, Option, Some, None, codes, bytes_eq}
 use Rattle.std.specs.List.{list_all}
 use Rattle.std.specs.Cmp.Lexicographic.{bytes_decides}
-use Rattle.std.proofs.Common.{ap, sym, ◌∙◌, subst}
+use Rattle.std.proofs.Common.{sym, subst}
 use Rattle.text_meaning.specs.declared.mark.Mark.{Mark}
 use Rattle.text_meaning.specs.declared.mark.Mark.TheVariants as M
 use Rattle.text_meaning.specs.Names.{is_bare, is_variable}
@@ -13,7 +13,7 @@ use Rattle.text_table.specs.declared.class.Class.TheVariants as C
 use Rattle.text_table.specs.Classes.{spelling, names}
 use Rattle.text_table.specs.Spelled.{class_among, class_named}
 use Rattle.text_syntax.specs.Among.{is_one_of, none_of, here, later, behind}
-use Rattle.text_syntax.specs.Classing.{class_of, class_of_word, class_of_other, class_of_name, class_of_number, class_of_mark, own_or_other, is_numbered}
+use Rattle.text_syntax.specs.Classing.{class_of, class_of_other, class_of_mark, own_or_other, is_numbered}
 
 -- of words without a class of their own
 abbrev pub other_classes : List Class

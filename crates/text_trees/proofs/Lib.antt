@@ -1,4 +1,10 @@
+pub mod Agreeing
+pub mod AgreeingNodes
+pub mod AgreeingTexts
+pub mod AgreeingTrees
 pub mod Counting
+pub mod Declaring
+pub mod Telling
 pub mod Turning
 pub mod Unwinding
 pub mod Walking

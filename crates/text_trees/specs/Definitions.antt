@@ -13,6 +13,7 @@ use Rattle.raw_ast.specs.Types.{RawType}
 use Rattle.raw_meaning.specs.declared.outline.Outline.{Outline}
 use Rattle.raw_meaning.specs.Faults.{type_names}
 use Rattle.raw_meaning.specs.Outlines.{outline_of}
+use Rattle.text_trees.specs.declared.definitions.Parts.{Parts}
 use Rattle.text_trees.specs.declared.definitions.Signature.{Signature}
 use Rattle.text_trees.specs.Codes.{code_told}
 use Rattle.text_trees.specs.Declarations.{parameters_told, declarations_told}
@@ -49,10 +50,16 @@ definitions_told h types kinds [] = Ok []
 definitions_told h types kinds (d ∷ rest) =
     and_then (definition_told h types kinds d) (λ y. on_ok (λ ys. y ∷ ys) (definitions_told h types (kinds ++ y.kind ∷ []) rest))
 
-abbrev pub text_told_in : Outline → RawText → Result Defs Span
-text_told_in h text =
+abbrev pub parts_told : Outline → RawText → Result Parts Span
+parts_told h text =
     and_then (declarations_told h [] [] text.types) (λ types.
-    on_ok (λ defs. record { types = types; names = h.functions; defs = defs }) (definitions_told h (type_names text.types) [] text.definitions))
+    on_ok (λ defs. record { types = types; defs = defs }) (definitions_told h (type_names text.types) [] text.definitions))
+
+abbrev pub put_together : List (List ℕ) → Parts → Defs
+put_together names p = record { types = p.types; names = names; defs = p.defs }
+
+abbrev pub text_told_in : Outline → RawText → Result Defs Span
+text_told_in h text = on_ok (put_together h.functions) (parts_told h text)
 
 abbrev pub text_told : RawText → Result Defs Span
 text_told text = text_told_in (outline_of text) text

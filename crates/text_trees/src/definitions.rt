@@ -14,7 +14,7 @@ use crate::declarations::{settle_declarations, settle_parameters};
 use crate::new_names::{new_definition, parameter};
 use crate::types::settle_type;
 use aen_base::{List, Name, NoMem};
-use pure_ast::{Code, Def, DefKind, Defs, PTy};
+use pure_ast::{Code, Def, DefKind, Defs, PTy, PType};
 use raw_ast::{Declaration, Definition, RawText, RawType, Spelling};
 use std::alloc::Global;
 use text_names::{Kinds, Names, Tables, outline_of};
@@ -25,6 +25,13 @@ pub(crate) struct Signature {
     pub type_parameters: List<Name>,
     pub parameters: List<PTy>,
     pub result: PTy,
+}
+
+/// The types and definitions of a text.
+#[derive(Drop)]
+pub(crate) struct Parts {
+    pub types: List<PType>,
+    pub defs: List<Def>,
 }
 
 /// The definitions that a text as it is spelled stands for, or the first place at which it breaks a
@@ -45,14 +52,31 @@ fn settle_text(alloc: Global, raw: &RawText) -> Result<Defs, SettleFault>
 {
     let outline = outline_of(alloc, raw)?;
     let tables = Tables::new(alloc, outline)?;
-    let types = settle_declarations(alloc, &tables, raw.types.as_slice())?;
-    let names = names_of_types(alloc, raw.types.as_slice())?;
-    let defs = settle_definitions(alloc, &tables, &names, raw.definitions.as_slice())?;
+    let Parts { types, defs } = settle_parts(alloc, &tables, raw)?;
     Ok(Defs {
         types,
         names: tables.into_functions(),
         defs,
     })
+}
+
+/// The types and definitions of a text whose tables these are.
+fn settle_parts(alloc: Global, tables: &Tables, raw: &RawText) -> Result<Parts, SettleFault>
+    requires { list_all (λ d. is_in d.name.function.text tables.now.functions) raw.now.definitions ≡ true }
+    ensures { Gives (spec.parts_told tables.now raw.now) result }
+{
+    let types = settle_declarations(alloc, tables, raw.types.as_slice())?;
+    let defs = settle_among(alloc, tables, raw)?;
+    Ok(Parts { types, defs })
+}
+
+/// The definitions of a text whose tables these are, among its types.
+fn settle_among(alloc: Global, tables: &Tables, raw: &RawText) -> Result<List<Def>, SettleFault>
+    requires { list_all (λ d. is_in d.name.function.text tables.now.functions) raw.now.definitions ≡ true }
+    ensures { Gives (spec.definitions_told tables.now (type_names raw.now.types) [] raw.now.definitions) result }
+{
+    let types = names_of_types(alloc, raw.types.as_slice())?;
+    settle_definitions(alloc, tables, &types, raw.definitions.as_slice())
 }
 
 /// The names of types, in order.

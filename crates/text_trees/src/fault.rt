@@ -19,3 +19,14 @@ impl From<NoMem> for SettleFault {
         SettleFault::Memory
     }
 }
+
+impl From<Span> for SettleFault {
+    ghost use Rattle.std.specs.Prelude.{◌≡◌};
+    ghost use Rattle.text_trees.specs.declared.fault.SettleFault.TheVariants.{Broken};
+
+    ghost from_gives = { λ place e. e ≡ Broken place };
+
+    fn from(place: Span) -> SettleFault {
+        SettleFault::Broken(place)
+    }
+}

@@ -1,0 +1,19 @@
+ghost use Rattle.raw_forms.specs.Formed.{AtomsAreFormed, CodesAreFormed, TypesAreFormed};
+
+/// A law: a type in which no rule is broken stands for one that is well-formed under any definitions
+/// that declare the same.
+pub fn types_are_formed()
+    ensures { TypesAreFormed }
+{}
+
+/// A law: an atom in which no rule is broken stands for a term that is well-formed under any definitions
+/// that declare the same.
+pub fn atoms_are_formed()
+    ensures { AtomsAreFormed }
+{}
+
+/// A law: code in which no rule is broken stands for code that is well-formed under any definitions that
+/// declare the same.
+pub fn codes_are_formed()
+    ensures { CodesAreFormed }
+{}
