@@ -4,7 +4,9 @@ use Rattle.std.specs.Prelude.{◌==◌, if◌then◌else◌, Option, Some, None}
 use Rattle.std.specs.Option.{option_and_then}
 use Rattle.text_words.specs.Pieces.{after, is_end}
 use Rattle.std.proofs.lemmas.Bool.Decides.{nat_tests}
-use Rattle.text_words.specs.Decimals.{same_number}
+
+same_number : (c : ℕ) → (c == c) ≡ true
+same_number c = grind (arith, nat_tests)
 
 numbers_same : (c d : ℕ) → (c == d) ≡ true → c ≡ d
 numbers_same c d h = grind (arith, nat_tests)

@@ -13,7 +13,7 @@ use Rattle.pure_ast.specs.Values.{PValue, PValues, no_pvalues, more_pvalues, pva
 use Rattle.text_meaning.specs.HasType.{HasType, HaveTypes, tuple_types, part_types}
 use Rattle.text_meaning.specs.ValueTerms.{value_term, value_terms}
 use Rattle.text_words.specs.Typing.{is_integer, is_boolean, has_type, have_types, closed_value, closed_values}
-use Rattle.text_words.specs.Decimals.{and_left, and_right, and_true}
+use Rattle.text_syntax.specs.Numerals.{and_left, and_right, and_true}
 
 integer_sound : (ty : PTy) (b : IntTy) → is_integer ty b ≡ true → ty ≡ integer b
 integer_sound (integer a) b h = ap integer (same_true the_type tt a b h)

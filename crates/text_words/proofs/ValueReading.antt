@@ -25,11 +25,15 @@ use Rattle.text_syntax.specs.Brackets.{few_open, few_lexemes, same_few}
 use Rattle.text_syntax.specs.Classing.{lexeme_of}
 use Rattle.raw_meaning.specs.declared.outline.Outline.{Outline}
 use Rattle.raw_meaning.specs.Heads.{declared_by}
-use Rattle.raw_completeness.specs.Complete.{term_complete, type_complete}
-use Rattle.raw_forms.specs.Formed.{AtomsAreFormed, TypesAreFormed}
+use Rattle.raw_completeness.specs.Atoms.{atom_read}
+use Rattle.raw_completeness.specs.Finding.{finds, places}
+use Rattle.raw_completeness.specs.Rows.{all_begin}
+use Rattle.raw_completeness.specs.Types.{as_type, type_read}
+use Rattle.raw_forms.specs.Atoms.{atom_formed}
+use Rattle.raw_forms.specs.Types.{type_formed}
 use Rattle.raw_soundness.specs.Readings.{BearsNames}
 use Rattle.raw_soundness.specs.Sound.{atom_sound, type_sound}
-use Rattle.text_words.specs.Proper.{term_proper, type_proper}
+use Rattle.text_syntax.specs.ProperTokens.{term_proper, type_proper}
 use Rattle.text_words.specs.Typing.{has_type, closed_value}
 use Rattle.text_words.specs.ValueWords.{IsWord, IsPiece}
 use Rattle.text_words.specs.WordReading.{IsTermRead, IsTypeRead, IsTermOf, IsTypeOf, Finds, of_type, value_of}
@@ -46,30 +50,30 @@ then_some f None y h = absurd cc
 then_some f (Some x) y h = (x, (refl, h))
 
 no_parameters : (d : Defs) → AreTypeParameters d []
-no_parameters d = ?
+no_parameters d = ((tt, tt), tt)
 
 module _ (d : Defs) (formed : IsWellFormed d) (ls : List Spelled) (text : List ℕ) (lexed : AreLexemes ls text) where
   -- ---- terms
 
-  term_sound : AtomsAreFormed → BearsNames ls → (t : Term) → IsTermOf (declared_by d) ls t → AllStand ls (term_tokens d t) × IsTerm d t
-  term_sound law named t r =
+  term_sound : BearsNames ls → (t : Term) → IsTermOf (declared_by d) ls t → AllStand ls (term_tokens d t) × IsTerm d t
+  term_sound named t r =
       let s = atom_sound ls r.term.raw named r.term.read.reads in
-      let f = law (declared_by d) r.term.raw s.shaped r.term.faults in
+      let f = atom_formed (declared_by d) r.term.raw s.shaped r.term.faults in
       (s.stands (declared_by d) d t refl r.term.tree, subst (IsTerm d) (same_Some f.tree t (sym f.is ∙ r.term.tree)) (f.fits d refl))
 
   term_found : (t : Term) → IsTerm d t → AllStand ls (term_tokens d t) → few_open 0 (term_tokens d t) ≡ true → IsTermOf (declared_by d) ls t
   term_found t w stand few =
-      let g = term_complete d t ls formed w stand in
+      let g = atom_read d (declared_by d) (finds d formed) t w ls [] (all_begin (term_tokens d t) ls stand) in
       record {
         few = same_few ls (term_tokens d t) 0 stand ∙ few;
-        term = record { raw = g.0; read = read_once N.Atom (map lexeme_of ls) g.0 g.1.0; tree = g.1.1.0; faults = g.1.1.1 };
+        term = record { raw = g.value; read = read_once N.Atom (map lexeme_of ls) g.value g.reads; tree = g.holds.0; faults = g.holds.1 };
       }
 
   -- ---- values
 
-  value_by : AtomsAreFormed → BearsNames ls → (ty : PTy) (t : Term) (v : PValue) → IsTermOf (declared_by d) ls t → closed_value t ≡ Some v → has_type d ty v ≡ true → IsWord d ty text v
-  value_by law named ty t v r e typed =
-      let s = term_sound law named t r in
+  value_by : BearsNames ls → (ty : PTy) (t : Term) (v : PValue) → IsTermOf (declared_by d) ls t → closed_value t ≡ Some v → has_type d ty v ≡ true → IsWord d ty text v
+  value_by named ty t v r e typed =
+      let s = term_sound named t r in
       let is = closed_sound t v e in
       let term = subst (IsTerm d) is s.1 in
       let stand = subst (λ (x : Term). AllStand ls (term_tokens d x)) is s.0 in
@@ -80,13 +84,13 @@ module _ (d : Defs) (formed : IsWellFormed d) (ls : List Spelled) (text : List �
         type = type_is d ty v typed;
       }
 
-  value_sound : AtomsAreFormed → BearsNames ls → (ty : PTy) (o : Option Term) (v : PValue) → Finds (IsTermOf (declared_by d) ls) o → value_of d ty o ≡ Some v → IsWord d ty text v
-  value_sound law named ty None v r h = absurd cc
-  value_sound law named ty (Some t) v r h =
+  value_sound : BearsNames ls → (ty : PTy) (o : Option Term) (v : PValue) → Finds (IsTermOf (declared_by d) ls) o → value_of d ty o ≡ Some v → IsWord d ty text v
+  value_sound named ty None v r h = absurd cc
+  value_sound named ty (Some t) v r h =
       let b = then_some (of_type d ty) (closed_value t) v h in
       let c = if_some (has_type d ty b.0) (Some b.0) v b.1.1 in
       let same = same_Some b.0 v c.1 in
-      value_by law named ty t v r (b.1.0 ∙ ap Some same) (ap (has_type d ty) (sym same) ∙ c.0)
+      value_by named ty t v r (b.1.0 ∙ ap Some same) (ap (has_type d ty) (sym same) ∙ c.0)
 
   word_found : (ty : PTy) (v : PValue) → IsWord d ty text v → IsTermOf (declared_by d) ls (value_term v)
   word_found ty v w = term_found (value_term v) w.term ((lexed (term_tokens d (value_term v)) (term_proper d (value_term v) w.term)).0 w.tokens) w.few
@@ -101,21 +105,21 @@ module _ (d : Defs) (formed : IsWellFormed d) (ls : List Spelled) (text : List �
   value_once ty v w a b =
       same_Some v w (sym (value_complete ty (Some (value_term v)) v (word_found ty v a) a) ∙ value_complete ty (Some (value_term v)) w (word_found ty v a) b)
 
-  value_from : AtomsAreFormed → BearsNames ls → (ty : PTy) (o : Option Term) (r : Option PValue) → Finds (IsTermOf (declared_by d) ls) o → value_of d ty o ≡ r →
+  value_from : BearsNames ls → (ty : PTy) (o : Option Term) (r : Option PValue) → Finds (IsTermOf (declared_by d) ls) o → value_of d ty o ≡ r →
       MatchOption r ((v : PValue) → IsWord d ty text v → ⊥) (λ v. IsWord d ty text v)
-  value_from law named ty o None f h = λ v w. let k = value_complete ty o v f w in absurd cc
-  value_from law named ty o (Some v) f h = value_sound law named ty o v f h
+  value_from named ty o None f h = λ v w. let k = value_complete ty o v f w in absurd cc
+  value_from named ty o (Some v) f h = value_sound named ty o v f h
 
-  pub value_exact : AtomsAreFormed → BearsNames ls → (ty : PTy) (o : Option Term) (r : Option PValue) → Finds (IsTermOf (declared_by d) ls) o → r ≡ value_of d ty o →
+  pub value_exact : BearsNames ls → (ty : PTy) (o : Option Term) (r : Option PValue) → Finds (IsTermOf (declared_by d) ls) o → r ≡ value_of d ty o →
       MatchOption r ((v : PValue) → IsWord d ty text v → ⊥) (λ v. IsWord d ty text v)
-  value_exact law named ty o r f h = value_from law named ty o r f (sym h)
+  value_exact named ty o r f h = value_from named ty o r f (sym h)
 
   -- ---- types
 
-  piece_sound : TypesAreFormed → BearsNames ls → (t : PTy) → IsTypeOf (declared_by d) ls t → IsPiece d text t
-  piece_sound law named t r =
+  piece_sound : BearsNames ls → (t : PTy) → IsTypeOf (declared_by d) ls t → IsPiece d text t
+  piece_sound named t r =
       let s = type_sound ls r.type.raw named r.type.read.reads in
-      let f = law (declared_by d) [] r.type.raw s.shaped r.type.faults in
+      let f = type_formed (declared_by d) [] r.type.raw s.shaped r.type.faults in
       let stand = s.stands (declared_by d) d [] t refl r.type.tree in
       record {
         tokens = (lexed (type_tokens d [] t) (type_proper d [] t)).1 stand;
@@ -126,18 +130,18 @@ module _ (d : Defs) (formed : IsWellFormed d) (ls : List Spelled) (text : List �
   piece_found : (t : PTy) → IsPiece d text t → IsTypeOf (declared_by d) ls t
   piece_found t w =
       let stand = (lexed (type_tokens d [] t) (type_proper d [] t)).0 w.tokens in
-      let g = type_complete d [] t ls formed (no_parameters d) w.type stand in
+      let g = as_type d (declared_by d) [] t (type_read d (declared_by d) [] (finds d formed) (places d [] (no_parameters d)) t w.type) ls [] (all_begin (type_tokens d [] t) ls stand) in
       record {
         few = same_few ls (type_tokens d [] t) 0 stand ∙ w.few;
-        type = record { raw = g.0; read = read_once N.Type (map lexeme_of ls) g.0 g.1.0; tree = g.1.1.0; faults = g.1.1.1 };
+        type = record { raw = g.value; read = read_once N.Type (map lexeme_of ls) g.value g.reads; tree = g.holds.0; faults = g.holds.1 };
       }
 
   pub piece_once : (t u : PTy) → IsPiece d text t → IsPiece d text u → t ≡ u
   piece_once t u a b = read_type_once (declared_by d) (map lexeme_of ls) t u (piece_found t a).type (piece_found u b).type
 
-  pub piece_exact : TypesAreFormed → BearsNames ls → (o : Option PTy) → Finds (IsTypeOf (declared_by d) ls) o → MatchOption o ((t : PTy) → IsPiece d text t → ⊥) (λ t. IsPiece d text t)
-  piece_exact law named None f = λ t w. f t (piece_found t w)
-  piece_exact law named (Some t) f = piece_sound law named t f
+  pub piece_exact : BearsNames ls → (o : Option PTy) → Finds (IsTypeOf (declared_by d) ls) o → MatchOption o ((t : PTy) → IsPiece d text t → ⊥) (λ t. IsPiece d text t)
+  piece_exact named None f = λ t w. f t (piece_found t w)
+  piece_exact named (Some t) f = piece_sound named t f
 
 -- a text without tokens is no value and no type
 pub no_word : (d : Defs) (ty : PTy) (text : List ℕ) → HasNoTokens text → (v : PValue) → IsWord d ty text v → ⊥
@@ -178,17 +182,17 @@ no_fault None h = refl
 no_fault (Some x) h = absurd cc
 
 -- what is read under the tables of what the definitions declare
-pub value_read : {E : Type 0} (d : Defs) (h : Outline) (ty : PTy) (ls : List Spelled) (text : List ℕ) (o : Option Term) (r : Result (Option PValue) E) → IsWellFormed d → AtomsAreFormed →
+pub value_read : {E : Type 0} (d : Defs) (h : Outline) (ty : PTy) (ls : List Spelled) (text : List ℕ) (o : Option Term) (r : Result (Option PValue) E) → IsWellFormed d →
     h ≡ declared_by d → AreLexemes ls text → BearsNames ls → Finds (IsTermOf h ls) o → IfOk r (λ v. v ≡ value_of d ty o) →
     IfOk r (λ v. MatchOption v ((w : PValue) → IsWord d ty text w → ⊥) (λ w. IsWord d ty text w))
-value_read d h ty ls text o r formed law own lexed named f k =
+value_read d h ty ls text o r formed own lexed named f k =
     let found = subst (λ (h : Outline). Finds (IsTermOf h ls) o) own f in
     IfOk-weaker r (λ v. v ≡ value_of d ty o) (λ v. MatchOption v ((w : PValue) → IsWord d ty text w → ⊥) (λ w. IsWord d ty text w))
-    (λ v e. value_exact d formed ls text lexed law named ty o v found e) k
+    (λ v e. value_exact d formed ls text lexed named ty o v found e) k
 
-pub piece_read : {E : Type 0} (d : Defs) (h : Outline) (ls : List Spelled) (text : List ℕ) (r : Result (Option PTy) E) → IsWellFormed d → TypesAreFormed →
+pub piece_read : {E : Type 0} (d : Defs) (h : Outline) (ls : List Spelled) (text : List ℕ) (r : Result (Option PTy) E) → IsWellFormed d →
     h ≡ declared_by d → AreLexemes ls text → BearsNames ls → IfOk r (λ o. Finds (IsTypeOf h ls) o) →
     IfOk r (λ o. MatchOption o ((t : PTy) → IsPiece d text t → ⊥) (λ t. IsPiece d text t))
-piece_read d h ls text r formed law own lexed named k =
+piece_read d h ls text r formed own lexed named k =
     IfOk-weaker r (λ o. Finds (IsTypeOf h ls) o) (λ o. MatchOption o ((t : PTy) → IsPiece d text t → ⊥) (λ t. IsPiece d text t))
-    (λ o f. piece_exact d formed ls text lexed law named o (subst (λ (h : Outline). Finds (IsTypeOf h ls) o) own f)) k
+    (λ o f. piece_exact d formed ls text lexed named o (subst (λ (h : Outline). Finds (IsTypeOf h ls) o) own f)) k

@@ -1,5 +1,3 @@
-pub mod Decimals
-pub mod Proper
 pub mod ValueWords
 pub mod NamedDefinitions
 pub mod Pieces

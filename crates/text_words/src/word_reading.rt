@@ -15,7 +15,6 @@ use crate::typing::has_type;
 use aen_base::{List, NoMem};
 use pure_ast::{Defs, PTy, PValue, Term};
 use raw_ast::{RawAtom, RawType};
-use raw_forms::{atoms_are_formed, types_are_formed};
 use raw_reader::{read_atom, read_type};
 use std::alloc::Global;
 use text_names::{Names, Tables};
@@ -36,7 +35,6 @@ pub(crate) fn read_value(
     requires own { tables.now ≡ declared_by defs.now }
     ensures { IfOk result (λ o. MatchOption o ((v : values.PValue) → IsWord defs.now ty.now word.now v → ⊥) (λ v. IsWord defs.now ty.now word.now v)) }
 {
-    atoms_are_formed();
     let Lexemes { list, fault } = lex(alloc, word)?;
     if fault.is_some() {
         return Ok(None);
@@ -58,7 +56,6 @@ pub(crate) fn read_piece(
     requires own { tables.now ≡ declared_by defs.now }
     ensures { IfOk result (λ o. MatchOption o ((t : types.PTy) → IsPiece defs.now piece.now t → ⊥) (λ t. IsPiece defs.now piece.now t)) }
 {
-    types_are_formed();
     let Lexemes { list, fault } = lex(alloc, piece)?;
     if fault.is_some() {
         return Ok(None);
