@@ -22,7 +22,7 @@ AfterTypeName = (tt, (ty, more)) | (tt, (ty, more))
 TypeArguments = tt | (ty, more)
 Factors = tt | (ty, more)
 Definitions = (tt, tt) | ((one.0, more.0), (one.1, more.1))
-Definition = (record { parameters = parameters; result = result; code = code }, record { function = name; type_parameters = type_parameters })
+Definition = (record { parameters = parameters; result = output; code = code }, record { function = name; type_parameters = type_parameters })
 FuelParameter = tt
 FuelMatch = tt
 DefinitionName = name

@@ -1,17 +1,21 @@
 #!/usr/bin/env python3
 """Writes the two tables of crates/raw_soundness that go through the productions of printed texts: text_sound.py, then `rt check`
 
-Reads text_sound.desc.py, and by text_ways.py the productions with names for the values of their symbols. `Kept.antt`: each
+Reads text_sound.desc.py, and text_ways.desc.py for the names of the values of each production's symbols. `Kept.antt`: each
 production makes values of its part's shape. `Spelled.antt`: what it makes wants what its symbols want.
 """
 import os
 import re
+import sys
 
-import text_ways as ways
+HERE = os.path.dirname(os.path.abspath(__file__))
+sys.path.insert(0, HERE)
+from grammar import Description  # noqa: E402
+from source_build import load  # noqa: E402
 
-D = {}
-exec(open(os.path.join(ways.HERE, "text_sound.desc.py"), encoding="utf-8").read(), D)
-ROOT = os.path.join(ways.HERE, "..", "crates", "raw_soundness", "specs")
+D, READ = load("text_sound.desc.py"), load("text_ways.desc.py")
+GRAMMAR = Description(os.path.join(HERE, READ["GRAMMAR"]))
+ROOT = os.path.join(HERE, "..", "crates", "raw_soundness", "specs")
 NOTE = "Written by tools/text_sound.py."
 LEMMAS = {"Kept": "Shaping", "Spelled": "Spelling"}
 
@@ -20,10 +24,15 @@ def rows(text):
     return dict(line.split(" = ", 1) for line in filter(None, text.split("\n")))
 
 
+WAYS = {part: ways.split(" | ") for part, ways in rows(READ["WAYS"]).items()}
+
+
 def productions(part):
     """Of each production of a part its symbols, and which name stands for the value of which."""
-    for way, symbols in zip(ways.WAYS[part], ways.G.table[("part", part, ())]):
-        yield symbols, {n: i for i, n in enumerate(ways.names_of(way, symbols)) if n != "_"}
+    for way, symbols in zip(WAYS[part], GRAMMAR.table[("part", part, ())]):
+        names = way.strip().rpartition(". ")[0].split()
+        assert len(names) == len(symbols), (part, way)
+        yield symbols, {n: i for i, n in enumerate(names) if n != "_"}
 
 
 def put_in(proof, symbols, names):
@@ -57,7 +66,7 @@ def lemmas_in(proofs, module):
 
 def table(name, holds, title, binder, proof_of, extra):
     lines, proofs = [], []
-    for part in ways.WAYS:
+    for part in WAYS:
         body = []
         for k, (symbols, names) in enumerate(productions(part)):
             proofs.append(put_in(proof_of(part, k), symbols, names))
@@ -65,7 +74,7 @@ def table(name, holds, title, binder, proof_of, extra):
         lines.append(f"{name.lower()} N.{part} = " + "".join(f"({b}, " for b in body) + "tt" + ")" * len(body))
     module = LEMMAS[name]
     text = f"""-- {title} {NOTE}
-use Rattle.std.specs.Prelude.{{◌≡◌, refl}}
+use Rattle.std.specs.Prelude.{{refl}}
 {extra}use Rattle.text_table.specs.declared.part.Part.{{Part}}
 use Rattle.text_table.specs.declared.part.Part.TheVariants as N
 use Rattle.raw_reader.specs.Makes.{{made}}
@@ -80,8 +89,8 @@ use Rattle.raw_reader.specs.Makes.{{made}}
 
 def main():
     shapes, spellings = rows(D["SHAPES"]), rows(D["SPELLINGS"])
-    for part in ways.WAYS:
-        assert len(shapes[part].split(" | ")) == len(ways.WAYS[part]), part
+    for part in WAYS:
+        assert len(shapes[part].split(" | ")) == len(WAYS[part]), part
     table("Kept", "IsKept", "Each production makes values of its part's shape.", "v f", lambda part, k: shapes[part].split(" | ")[k],
           "use Rattle.std.proofs.Common.{inl, inr}\n")
     table("Spelled", "IsSpelled", "What a production makes wants what its symbols want.", "v f rest",

@@ -5,10 +5,10 @@ use Rattle.std.specs.List.{slice_split, join_with_byte}
 use Rattle.std.proofs.lemmas.List.Splits.{join_with_byte-slice_split}
 use Rattle.std.proofs.lemmas.List.Elements.{All-cons}
 use Rattle.std.specs.String.{string_bytes, string_len}
-use Rattle.lean_reader.specs.declared.arguments.ArgFault.{ArgFault}
-use Rattle.lean_reader.specs.declared.arguments.ArgFault.TheVariants as W
-use Rattle.lean_reader.specs.NamedDefinitions.{NoneNamed}
-use Rattle.lean_reader.specs.ValueWords.{IsReadingAt, parameter_types}
+use Rattle.text_words.specs.declared.arguments.ArgFault.{ArgFault}
+use Rattle.text_words.specs.declared.arguments.ArgFault.TheVariants as W
+use Rattle.text_words.specs.NamedDefinitions.{NoneNamed}
+use Rattle.text_words.specs.ValueWords.{IsReadingAt, parameter_types}
 use Rattle.pure_ast.specs.declared.def.Def.{Def}
 use Rattle.pure_ast.specs.declared.def.Defs.{Defs}
 use Rattle.pure_ast.specs.Values.{PValue}

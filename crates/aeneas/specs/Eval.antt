@@ -1,10 +1,10 @@
 -- What `eval` answers (PROMISES.md, "Safe and total" and "Each tool meets its meaning").
 use Rattle.std.specs.Prelude.{◌≡◌, ℕ, ◌≤◌, ◌^◌, ◌⊎◌, List, length, Some, slice_get}
 use Rattle.aen_base.specs.declared.limits.Which.TheVariants as L
-use Rattle.lean_reader.specs.declared.arguments.ArgFault.{ArgFault}
-use Rattle.lean_reader.specs.declared.arguments.ArgFault.TheVariants as W
-use Rattle.lean_reader.specs.NamedDefinitions.{IsNamed, NoneNamed}
-use Rattle.lean_reader.specs.ValueWords.{AreTypeArguments, AreWords, IsFirstBad, parameter_types}
+use Rattle.text_words.specs.declared.arguments.ArgFault.{ArgFault}
+use Rattle.text_words.specs.declared.arguments.ArgFault.TheVariants as W
+use Rattle.text_words.specs.NamedDefinitions.{IsNamed, NoneNamed}
+use Rattle.text_words.specs.ValueWords.{AreTypeArguments, AreWords, IsFirstBad, parameter_types}
 use Rattle.pure_ast.specs.declared.def.Def.{Def}
 use Rattle.pure_ast.specs.declared.def.Defs.{Defs}
 use Rattle.pure_ast.specs.Types.{PTy}

@@ -12,11 +12,11 @@ use crate::refusal::Refusal;
 use crate::reply::{Reply, one_line, refused};
 use aen_base::{DefId, NoMem, Text, Which};
 use aen_io::Files;
-use lean_reader::{ArgFault, def_named, print_atom, read_args};
 use pure_ast::Defs;
 use pure_eval::eval;
 use std::alloc::Global;
 use text_meaning::Answer;
+use text_words::{ArgFault, def_named, print_atom, read_args};
 
 /// `eval FILE DEF FUEL VALUE..`. The only error is want of memory.
 pub fn eval_file<F: Files>(

@@ -7,7 +7,7 @@ use Rattle.text_meaning.specs.Spelled.{tokens_of}
 use Rattle.lean_reader.specs.declared.read.LeanFault.{LeanFault}
 use Rattle.lean_reader.specs.declared.read.LeanFault.TheVariants.{Syntax, Limit, Memory}
 use Rattle.lean_reader.specs.Faults.{IsFaultPlace}
-use Rattle.lean_reader.specs.ValueWords.{few_open}
+use Rattle.text_syntax.specs.Brackets.{few_open}
 
 -- the text is these definitions and no other, within the limit of brackets
 pub record IsRead (text : List ℕ) (defs : Defs) : Type 0 where

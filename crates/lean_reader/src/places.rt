@@ -1,47 +1,26 @@
-//! The places of type parameters.
+//! The place of a fault of the grammar.
 
-ghost use Rattle.std.specs.Prelude.{◌≡◌, IfOk};
-ghost use Rattle.lean_reader.specs.Tests as tests;
+ghost use Rattle.std.specs.Prelude.{◌≤◌, ◌<◌, ◌^◌, length};
+ghost use Rattle.lean_reader.specs.Placed.{IsPlaced};
 
-use crate::by_name::ByName;
-use aen_base::{List, Name, NoMem};
-use std::alloc::Global;
-use std::marker::Model;
+use aen_base::Span;
+use text_table::Lexeme;
 
-/// A definition's or a type's parameters, found by name: contracts see their names in order.
-#[derive(Drop)]
-pub(crate) struct Places {
-    names: ByName<Name>,
-}
-
-impl Model for Places {
-    ghost use Rattle.std.specs.Prelude.{List, ℕ};
-    ghost use Rattle.std.specs.Coded.{coded_list, coded_ℕ};
-
-    ghost Value = { List (List ℕ) };
-
-    ghost coded = { coded_list (coded_list coded_ℕ) };
-
-    ghost view = { λ s. s.names };
-}
-
-impl Places {
-    /// The places of these names. The only error is want of memory.
-    pub(crate) fn new(alloc: Global, names: &[Name]) -> Result<Places, NoMem>
-        ensures { IfOk result (λ p. p ≡ names.now) }
-    {
-        let mut copies = List::new(alloc);
-        for name in names {
-            copies.push(name.try_clone(alloc)?)?;
-        }
-        let names = ByName::new(alloc, copies)?;
-        Ok(Places { names })
+/// Where the fault of this lexeme stands, in a text of less than 2^32 bytes, so many: the lexeme's
+/// place; where there is no such lexeme, the place of the character that is none, or the end.
+pub(crate) fn place_of(lexemes: &[Lexeme], number: usize, fault: Option<Span>, end: usize) -> Span
+    requires within { number ≤ length lexemes.now }
+    requires short { end < 2 ^ 32 }
+    ensures { IsPlaced lexemes.now number fault end result }
+{
+    if number < lexemes.len() {
+        return lexemes[number].span;
     }
-
-    /// The place of the first parameter of this name.
-    pub(crate) fn place_of(&self, name: &Name) -> Option<u32>
-        ensures { result ≡ tests.place_of self.now name.now }
-    {
-        self.names.place_of(name)
+    match fault {
+        Some(place) => place,
+        None => Span {
+            lo: end as u32,
+            hi: end as u32,
+        },
     }
 }

@@ -1,14 +1,16 @@
 ghost use Rattle.std.specs.Prelude.{◌≡◌, ◌<◌, ◌^◌, length, MatchResult};
+ghost use Rattle.lean_reader.specs.Placed.{IsWithin};
 ghost use Rattle.lean_reader.specs.Reading.{IsRead, IsFault};
 
-use crate::ReadFault;
-use crate::fault_places::fault_place;
-use crate::lexemes_read::read_lexemes;
-use crate::word_reading::has_few_brackets;
+use crate::places::place_of;
 use aen_base::{NoMem, Span, Which};
 use pure_ast::Defs;
+use raw_ast::RawText;
+use raw_reader::read_text;
 use std::alloc::Global;
+use text_syntax::{has_few_brackets, lexemes_of};
 use text_tokens::{Lexemes, lex};
+use text_trees::{SettleFault, definitions_of};
 
 /// Why a text isn't read.
 #[derive(Clone, Copy, Debug, PartialEq, Eq)]
@@ -35,25 +37,46 @@ impl From<NoMem> for LeanFault {
 /// The definitions that a text of less than 2^32 bytes is.
 ///
 /// `Syntax` comes exactly where the text is none; the place is that of the first fault of the
-/// grammar or, where it has none, of the first lexeme that breaks another rule (docs/TEXT.md,
+/// grammar or, where it has none, of the first name or number that breaks another rule (docs/TEXT.md,
 /// "Faults"). `Limit` is `TextNesting` and 10,001, and comes exactly where the text is one in which
 /// more than 10,000 brackets are open at once. `Memory` is want of memory.
 pub fn read_defs(alloc: Global, text: &str) -> Result<Defs, LeanFault>
     requires { length text.now < 2 ^ 32 }
     ensures { MatchResult result (IsRead text.now) (IsFault text.now) }
 {
-    let lexemes = lex(alloc, text)?;
-    if lexemes.fault.is_some() {
-        return Err(LeanFault::Syntax(fault_place(alloc, text, &lexemes)?));
+    let Lexemes { list, fault } = lex(alloc, text)?;
+    let has_few = has_few_brackets(list.as_slice());
+    let lexemes = lexemes_of(alloc, list)?;
+    match read_text(alloc, lexemes.as_slice())? {
+        Ok(raw) => Ok(definitions_within(alloc, &raw, fault, has_few)?),
+        Err(number) => {
+            let place = place_of(lexemes.as_slice(), number, fault, text.len());
+            Err(LeanFault::Syntax(place))
+        }
     }
-    match read_lexemes(alloc, lexemes.list.as_slice()) {
+}
+
+/// The definitions of a text that keeps to the grammar as far as it has tokens, which all are tokens
+/// where there is no fault, and whose brackets are few.
+fn definitions_within(
+    alloc: Global,
+    raw: &RawText,
+    fault: Option<Span>,
+    has_few: bool,
+) -> Result<Defs, LeanFault>
+    ensures { IsWithin raw.now fault has_few result }
+{
+    if let Some(place) = fault {
+        return Err(LeanFault::Syntax(place));
+    }
+    match definitions_of(alloc, raw) {
         Ok(defs) => {
-            if !has_few_brackets(lexemes.list.as_slice()) {
+            if !has_few {
                 return Err(LeanFault::Limit(Which::TextNesting, 10_001));
             }
             Ok(defs)
         }
-        Err(ReadFault::Syntax) => Err(LeanFault::Syntax(fault_place(alloc, text, &lexemes)?)),
-        Err(ReadFault::Memory) => Err(LeanFault::Memory),
+        Err(SettleFault::Broken(place)) => Err(LeanFault::Syntax(place)),
+        Err(SettleFault::Memory) => Err(LeanFault::Memory),
     }
 }

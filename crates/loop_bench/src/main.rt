@@ -4,11 +4,12 @@
 
 use aen_base::NoMem;
 use aen_io::{RealSink, write_all};
-use lean_reader::{def_named, print_atom, read_args, read_defs};
+use lean_reader::read_defs;
 use std::alloc::Global;
 use std::io;
 use std::process::ExitCode;
 use text_meaning::Answer;
+use text_words::{def_named, print_atom, read_args};
 
 /// Adds up the numbers from v1 to 1: a test and two sums a turn, three binds.
 const TEXT: &str = "import AenPrelude

@@ -6,3 +6,10 @@ pub mod Lookups
 pub mod Types
 pub mod Atoms
 pub mod Codes
+pub mod Differences
+pub mod Members
+pub mod Declarations
+pub mod Definitions
+pub mod Kinds
+pub mod FunctionOrder
+pub mod TextForms

@@ -1,4 +1,9 @@
-ghost use Rattle.raw_forms.specs.Formed.{AtomsAreFormed, CodesAreFormed, TypesAreFormed};
+ghost use Rattle.raw_forms.specs.Formed.{
+  AtomsAreFormed,
+  CodesAreFormed,
+  TextsAreFormed,
+  TypesAreFormed,
+};
 
 /// A law: a type in which no rule is broken stands for one that is well-formed under any definitions
 /// that declare the same.
@@ -16,4 +21,9 @@ pub fn atoms_are_formed()
 /// declare the same.
 pub fn codes_are_formed()
     ensures { CodesAreFormed }
+{}
+
+/// A law: a text in which no rule is broken stands for well-formed definitions.
+pub fn texts_are_formed()
+    ensures { TextsAreFormed }
 {}

@@ -1,5 +1,5 @@
 -- What a text declares is what the definitions declare that it stands for.
-use Rattle.std.specs.Prelude.{◌≡◌, refl, ℕ, suc, List, [], ◌∷◌, length, map, Option, Some, None, codes}
+use Rattle.std.specs.Prelude.{◌≡◌, refl, ℕ, suc, List, [], ◌∷◌, length, map, Some, codes}
 use Rattle.std.proofs.Common.{ap, sym, ◌∙◌, subst}
 use Rattle.pure_ast.specs.declared.def.Def.{Def}
 use Rattle.pure_ast.specs.declared.def.DefKind.{DefKind}
@@ -16,15 +16,12 @@ use Rattle.raw_ast.specs.declared.declarations.RawText.{RawText}
 use Rattle.raw_ast.specs.declared.declarations.Variant.{Variant}
 use Rattle.raw_ast.specs.declared.spelling.Spelling.{Spelling}
 use Rattle.raw_ast.specs.Types.{RawType}
-use Rattle.raw_meaning.specs.declared.outline.DefinitionHead.{DefinitionHead}
 use Rattle.raw_meaning.specs.declared.outline.Outline.{Outline}
-use Rattle.raw_meaning.specs.declared.outline.TypeHead.{TypeHead}
-use Rattle.raw_meaning.specs.declared.outline.VariantHead.{VariantHead}
 use Rattle.raw_meaning.specs.Faults.{texts}
 use Rattle.raw_meaning.specs.Heads.{declared_by, head_of_type, head_of_variant, head_of_definition}
 use Rattle.raw_meaning.specs.OptionLemmas.{some_so, mapped_made, both_made, four_made, each_same, each_length}
 use Rattle.raw_meaning.specs.Outlines.{kind_of, type_head, variant_head, members_heads, with_head, definition_heads, outline_of}
-use Rattle.raw_meaning.specs.Trees.{each, type_tree, numbered_fields, variant_tree, field_tree, members_trees, is_structure, declaration_tree, defined, parameter_types, definition_tree, code_tree, definitions_in, definitions}
+use Rattle.raw_meaning.specs.Trees.{each, type_tree, numbered_fields, variant_tree, field_tree, members_trees, is_structure, declaration_tree, defined, parameter_types, definition_tree, code_tree, definitions}
 
 numbered_length : (k : ℕ) (xs : List PTy) → length (numbered_fields k xs) ≡ length xs
 numbered_length k [] = refl
@@ -59,7 +56,7 @@ definition_headed : (h : Outline) (d : Definition) (x : Def) → definition_tree
 definition_headed h d x e =
     let ps = texts d.type_parameters in
     let m = four_made (λ (kind : DefKind) (xs : List PTy) (r : PTy) (b : Code). defined kind ps xs r b) (kind_of h.functions d.name)
-        (parameter_types h ps d.parameters) (type_tree h ps d.result) (code_tree h d.code) x e in
+    (parameter_types h ps d.parameters) (type_tree h ps d.result) (code_tree h d.code) x e in
     subst (λ (x : Def). (kind_of h.functions d.name ≡ Some x.kind) × (length x.params ≡ length d.parameters)) m.rest.is
     (m.is_first, each_length (λ (p : Spelling × RawType). type_tree h ps p.1) d.parameters m.rest.first m.rest.is_first)
 

@@ -1,18 +1,15 @@
 -- Atoms as they are spelled are spelled as the terms that they stand for.
-use Rattle.std.specs.Prelude.{◌≡◌, refl, ℕ, Bool, true, false, List, [], ◌∷◌, ◌++◌, length, Option, Some, None, codes}
-use Rattle.std.specs.Option.{option_map}
-use Rattle.std.proofs.Common.{ap, sym, ◌∙◌, subst}
+use Rattle.std.specs.Prelude.{◌≡◌, refl, Bool, true, false, length, Some}
+use Rattle.std.proofs.Common.{ap, ◌∙◌, subst}
 use Rattle.aen_base.specs.Numbers.{Number}
 use Rattle.aen_base.specs.declared.int_ty.IntTy.{IntTy}
-use Rattle.pure_ast.specs.declared.ctor.CtorId.{CtorId}
 use Rattle.pure_ast.specs.declared.def.Defs.{Defs}
 use Rattle.pure_ast.specs.Terms as term
 use Rattle.pure_ast.specs.Terms.{Term, Terms}
-use Rattle.text_meaning.specs.declared.mark.Mark.TheVariants.{Open, Close, Comma}
+use Rattle.text_meaning.specs.declared.mark.Mark.TheVariants.{Close}
 use Rattle.text_meaning.specs.SpelledTerms.{truth_tokens, number_tokens, term_tokens, terms_tokens, comma_tokens}
-use Rattle.text_meaning.specs.Tokens.{Token, word, id, mark}
+use Rattle.text_meaning.specs.Tokens.{word}
 use Rattle.text_meaning.specs.Words.{int_word}
-use Rattle.raw_ast.specs.declared.names.Constructor.{Constructor}
 use Rattle.raw_ast.specs.declared.spelling.Spelling.{Spelling}
 use Rattle.raw_ast.specs.Atoms as a
 use Rattle.raw_ast.specs.Atoms.{RawAtom, RawAtoms, rawatoms_list}
@@ -21,7 +18,7 @@ use Rattle.raw_meaning.specs.Heads.{declared_by}
 use Rattle.raw_meaning.specs.Numbers.{number_of}
 use Rattle.raw_meaning.specs.OptionLemmas.{some_so, mapped_made, both_made}
 use Rattle.raw_meaning.specs.Trees.{variable_number, constructor_id, atom_tree, atom_trees}
-use Rattle.raw_meaning.specs.Wants.{Wants, marks, truth_wants, constructor_wants, atom_wants, atoms_wants, comma_wants}
+use Rattle.raw_meaning.specs.Wants.{Wants, marks, truth_wants, atom_wants, atoms_wants, comma_wants}
 use Rattle.raw_soundness.specs.NamesSpelled.{constructor_spelled}
 use Rattle.raw_soundness.specs.NumbersSpelled.{variable_spelled, number_spelled}
 use Rattle.raw_soundness.specs.Spells.{Spells, over, next, seq}

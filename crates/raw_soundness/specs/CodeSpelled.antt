@@ -1,12 +1,10 @@
 -- Patterns, computations and code as they are spelled are spelled as what they stand for.
-use Rattle.std.specs.Prelude.{◌≡◌, refl, ℕ, Bool, true, false, List, [], ◌∷◌, ◌++◌, length, map, Option, Some, None, codes}
+use Rattle.std.specs.Prelude.{◌≡◌, refl, ℕ, List, [], ◌∷◌, length, map, Some, codes}
 use Rattle.std.specs.List.{flat_map}
-use Rattle.std.specs.Option.{option_map}
-use Rattle.std.proofs.Common.{ap, sym, ◌∙◌, subst}
+use Rattle.std.proofs.Common.{ap, sym, subst}
 use Rattle.pure_ast.specs.declared.comp.Comp.{Comp}
 use Rattle.pure_ast.specs.declared.comp.Comp.TheVariants as comp
 use Rattle.pure_ast.specs.declared.comp.Primitive.{Primitive}
-use Rattle.pure_ast.specs.declared.ctor.CtorId.{CtorId}
 use Rattle.pure_ast.specs.declared.def.Defs.{Defs}
 use Rattle.pure_ast.specs.declared.pat.Pat.{Pat}
 use Rattle.pure_ast.specs.declared.pat.Pat.TheVariants as pat
@@ -14,16 +12,15 @@ use Rattle.pure_ast.specs.Code as code
 use Rattle.pure_ast.specs.Code.{Code, Arms}
 use Rattle.pure_ast.specs.Terms as term
 use Rattle.pure_ast.specs.Terms.{Term, Terms, terms, terms_list}
-use Rattle.text_meaning.specs.declared.mark.Mark.TheVariants.{Open, Close, Comma, Bar, Gives, From, Becomes, Semicolon}
+use Rattle.text_meaning.specs.declared.mark.Mark.TheVariants.{Close, Comma, Gives, Semicolon}
 use Rattle.text_meaning.specs.Ranges.{arity}
 use Rattle.text_meaning.specs.SpelledCode.{code_tokens, arms_tokens}
 use Rattle.text_meaning.specs.SpelledNames.{var_token, prim_tokens}
 use Rattle.text_meaning.specs.SpelledTerms.{terms_tokens, pat_tokens, comp_tokens}
-use Rattle.text_meaning.specs.Tokens.{Token, word, id, mark}
+use Rattle.text_meaning.specs.Tokens.{Token, mark}
 use Rattle.raw_ast.specs.declared.computation.Computation.{Computation}
 use Rattle.raw_ast.specs.declared.computation.Computation.TheVariants as K
 use Rattle.raw_ast.specs.declared.computation.Operation.{Operation}
-use Rattle.raw_ast.specs.declared.names.Constructor.{Constructor}
 use Rattle.raw_ast.specs.declared.names.DefinitionName.{DefinitionName}
 use Rattle.raw_ast.specs.declared.pattern.Pattern.{Pattern}
 use Rattle.raw_ast.specs.declared.pattern.Pattern.TheVariants as P
@@ -34,8 +31,8 @@ use Rattle.raw_ast.specs.Code.{RawCode, RawArms}
 use Rattle.raw_meaning.specs.declared.outline.Outline.{Outline}
 use Rattle.raw_meaning.specs.Heads.{declared_by}
 use Rattle.raw_meaning.specs.Lookups.{definition_of}
-use Rattle.raw_meaning.specs.OptionLemmas.{some_so, mapped_made, both_made, three_made, parts_by, parts_made}
-use Rattle.raw_meaning.specs.Trees.{each, with_parts, variable_number, variable_numbers, constructor_id, pattern_tree, atom_tree, atom_trees, atoms_listed, computation_tree, code_tree, arm_trees}
+use Rattle.raw_meaning.specs.OptionLemmas.{some_so, mapped_made, both_made, three_made, parts_made}
+use Rattle.raw_meaning.specs.Trees.{with_parts, variable_number, variable_numbers, constructor_id, pattern_tree, atom_tree, atom_trees, atoms_listed, computation_tree, code_tree, arm_trees}
 use Rattle.raw_meaning.specs.Wants as w
 use Rattle.raw_meaning.specs.Wants.{Wants, says, marks, numbered, variables_wants, comma_variables_wants, pattern_wants, atom_wants, atoms_wants, computation_wants, code_wants, arms_wants}
 use Rattle.raw_soundness.specs.AtomsSpelled.{truth_spelled, atom_spelled, atoms_spelled}

@@ -1,17 +1,15 @@
 -- Declarations of types as they are spelled are spelled as the types that they declare.
-use Rattle.std.specs.Prelude.{◌≡◌, refl, ℕ, suc, Bool, true, false, ◌==◌, ◌&&◌, List, [], ◌∷◌, ◌++◌, length, map, Option, Some, None, codes, bytes_eq}
+use Rattle.std.specs.Prelude.{◌≡◌, refl, ℕ, suc, ◌==◌, ◌&&◌, List, [], ◌∷◌, ◌++◌, length, map, Some, codes, bytes_eq}
 use Rattle.std.specs.List.{flat_map}
-use Rattle.std.specs.Option.{option_map}
-use Rattle.std.proofs.Common.{ap, sym, ◌∙◌, subst}
+use Rattle.std.proofs.Common.{ap, sym, subst}
 use Rattle.std.proofs.lemmas.Bool.{eqb-true}
-use Rattle.aen_base.specs.declared.span.Span.{Span}
 use Rattle.pure_ast.specs.declared.def.Defs.{Defs}
 use Rattle.pure_ast.specs.declared.def.PType.{PType}
 use Rattle.pure_ast.specs.Types.{PTy}
 use Rattle.text_meaning.specs.declared.mark.Mark.TheVariants.{Open, Close, OpenBrace, CloseBrace, Bar, Colon, To}
 use Rattle.text_meaning.specs.Lookups.{Variant as NamedFields}
-use Rattle.text_meaning.specs.Spelled.{type_parameter, implicit_parameter, named_field, plain_field, variant_tokens, structure_fields, declared_tokens, type_declaration}
-use Rattle.text_meaning.specs.Tokens.{Token, word, id, mark}
+use Rattle.text_meaning.specs.Spelled.{type_parameter, implicit_parameter, named_field, plain_field, variant_tokens, type_declaration}
+use Rattle.text_meaning.specs.Tokens.{id}
 use Rattle.text_syntax.specs.Among.{and_left, and_right}
 use Rattle.raw_ast.specs.declared.declarations.Declaration.{Declaration}
 use Rattle.raw_ast.specs.declared.declarations.Members.{Members}

@@ -1,5 +1,5 @@
 -- Definitions as they are spelled are spelled as the definitions that they stand for.
-use Rattle.std.specs.Prelude.{◌≡◌, refl, ℕ, suc, Bool, true, false, ◌==◌, List, [], ◌∷◌, ◌++◌, Option, Some, None, is_some, codes}
+use Rattle.std.specs.Prelude.{◌≡◌, refl, ℕ, suc, true, List, [], ◌∷◌, ◌++◌, Option, Some, None, codes}
 use Rattle.std.specs.List.{flat_map}
 use Rattle.std.proofs.Common.{ap, sym, ◌∙◌, subst}
 use Rattle.std.proofs.lemmas.Bool.{eqb-true}
@@ -8,10 +8,10 @@ use Rattle.pure_ast.specs.declared.def.DefKind.{DefKind}
 use Rattle.pure_ast.specs.declared.def.Defs.{Defs}
 use Rattle.pure_ast.specs.Code.{Code}
 use Rattle.pure_ast.specs.Types.{PTy}
-use Rattle.text_meaning.specs.declared.mark.Mark.TheVariants.{Open, Close, OpenBrace, CloseBrace, Colon, Becomes}
+use Rattle.text_meaning.specs.declared.mark.Mark.TheVariants.{Close, OpenBrace, CloseBrace, Colon, Becomes}
 use Rattle.text_meaning.specs.Spelled.{parameters_tokens, fuel_tokens, fuel_match, definition}
 use Rattle.text_meaning.specs.SpelledNames.{var_token}
-use Rattle.text_meaning.specs.Tokens.{Token, word, id, mark}
+use Rattle.text_meaning.specs.Tokens.{word}
 use Rattle.raw_ast.specs.declared.declarations.Definition.{Definition}
 use Rattle.raw_ast.specs.declared.spelling.Spelling.{Spelling}
 use Rattle.raw_ast.specs.Types.{RawType}
@@ -23,7 +23,6 @@ use Rattle.raw_meaning.specs.OptionLemmas.{some_so, both_made, four_made, none_l
 use Rattle.raw_meaning.specs.Outlines.{kind_of}
 use Rattle.raw_meaning.specs.Rules.{parameter, is_number, new_definition}
 use Rattle.raw_meaning.specs.Trees.{each, type_tree, code_tree, parameter_types, defined, definition_tree}
-use Rattle.raw_meaning.specs.Wants as w
 use Rattle.raw_meaning.specs.Wants.{Wants, says, marks, type_wants, code_wants, fuel_parameter_wants, fuel_match_wants, parameters_wants, type_parameters_wants, definition_wants, definitions_wants}
 use Rattle.raw_soundness.specs.CodeSpelled.{code_spelled}
 use Rattle.raw_soundness.specs.DeclarationsSpelled.{implicit_spelled}
@@ -82,7 +81,7 @@ module _ (h : Outline) (d : Defs) (same : declared_by d ≡ h) where
   definition_spelled types kinds x t rest g e =
       let ps = texts x.type_parameters in
       let m = four_made (λ (kind : DefKind) (xs : List PTy) (r : PTy) (b : Code). defined kind ps xs r b) (kind_of h.functions x.name)
-          (parameter_types h ps x.parameters) (type_tree h ps x.result) (code_tree h x.code) t e in
+      (parameter_types h ps x.parameters) (type_tree h ps x.result) (code_tree h x.code) t e in
       let named = new_definition h.functions kinds x.name in
       let parameters = parameters_faults types [] x.type_parameters in
       let values = values_faults h ps 0 x.parameters in
@@ -98,8 +97,8 @@ module _ (h : Outline) (d : Defs) (same : declared_by d ≡ h) where
   definitions_spelled types kinds (x ∷ xs) ts rest g e =
       let m = both_made (λ y ys. y ∷ ys) (definition_tree h x) (each (definition_tree h) xs) ts e in
       let first = definition_faults h types kinds x in
-      let kinds2 = and_kind kinds (kind_of h.functions x.name) in
-      let later = definitions_faults h types kinds2 xs in
+      let more_kinds = and_kind kinds (kind_of h.functions x.name) in
+      let later = definitions_faults h types more_kinds xs in
       subst (λ ts. Spells (definitions_wants (x ∷ xs) rest) rest (flat_map (definition d) ts)) m.is
       (seq (definition_spelled types kinds x m.first (definitions_wants xs rest) (none_left first later g) m.is_first)
-      (definitions_spelled types kinds2 xs m.second rest (none_right first later g) m.is_second))
+      (definitions_spelled types more_kinds xs m.second rest (none_right first later g) m.is_second))

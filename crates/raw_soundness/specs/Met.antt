@@ -1,24 +1,21 @@
 -- A lexeme that a token takes is what the token wants.
-use Rattle.std.specs.Prelude.{◌≡◌, refl, ℕ, Bool, true, false, if◌then◌else◌, List, [], ◌∷◌}
-use Rattle.std.proofs.Common.{ap, sym, ◌∙◌, subst}
+use Rattle.std.specs.Prelude.{◌≡◌, refl, ℕ, true, List}
+use Rattle.std.proofs.Common.{subst}
 use Rattle.text_meaning.specs.declared.mark.Mark.TheVariants as M
 use Rattle.text_meaning.specs.Lists.{Each}
-use Rattle.text_meaning.specs.Names.{IsName}
 use Rattle.text_meaning.specs.Tokens.{word}
 use Rattle.text_meaning.specs.Words.{int_word}
 use Rattle.text_tokens.specs.declared.lexeme.LexemeKind.{LexemeKind}
-use Rattle.text_tokens.specs.declared.lexeme.LexemeKind.TheVariants.{Word, Marked, Number, Punct}
 use Rattle.text_tokens.specs.declared.lexeme.Lexeme.{Lexeme as Spelled}
 use Rattle.text_tokens.specs.Stands.{Stands}
 use Rattle.text_table.specs.declared.class.Class.{Class}
 use Rattle.text_table.specs.declared.class.Class.TheVariants as C
-use Rattle.text_table.specs.declared.lexeme.Lexeme.{Lexeme}
 use Rattle.text_table.specs.declared.terminal.Terminal.{Terminal}
 use Rattle.text_table.specs.declared.terminal.Terminal.TheVariants as T
 use Rattle.text_table.specs.Classes.{classes, spelling}
 use Rattle.text_table.specs.Lexemes.{has_class}
 use Rattle.text_syntax.specs.Among.{each_class}
-use Rattle.text_syntax.specs.Classing.{class_of, lexeme_of, text_of}
+use Rattle.text_syntax.specs.Classing.{class_of, lexeme_of}
 use Rattle.text_syntax.specs.Standing.{word_stands, one_word_stands, token_some_word, is_id, is_digits, zero_stands, one_stands, mark_stands}
 use Rattle.raw_reader.specs.Words.{int_of, is_true}
 use Rattle.raw_meaning.specs.Wants.{Meets, truth_word}

@@ -13,7 +13,7 @@ use Rattle.pure_ast.specs.declared.def.Defs.{Defs}
 use Rattle.pure_ast.specs.declared.def.PType.{PType}
 use Rattle.text_meaning.specs.Lookups.{Variant as NamedFields, or_empty, type_name, variant, variant_name, function_name}
 use Rattle.text_meaning.specs.SpelledNames.{ctor_tokens, kind_tokens, def_name_tokens, callee_tokens}
-use Rattle.text_meaning.specs.Tokens.{Token, word, id, back_text, loop_text}
+use Rattle.text_meaning.specs.Tokens.{word, id}
 use Rattle.text_syntax.specs.Among.{and_left, and_right}
 use Rattle.raw_ast.specs.declared.names.Constructor.{Constructor}
 use Rattle.raw_ast.specs.declared.names.Constructor.TheVariants as C
@@ -23,15 +23,15 @@ use Rattle.raw_meaning.specs.declared.outline.Outline.{Outline}
 use Rattle.raw_meaning.specs.declared.outline.TypeHead.{TypeHead}
 use Rattle.raw_meaning.specs.declared.outline.VariantHead.{VariantHead}
 use Rattle.raw_meaning.specs.Heads.{declared_by, head_of_type, head_of_variant, head_of_definition}
-use Rattle.raw_meaning.specs.LookupLemmas.{IsThere, found, placed}
+use Rattle.raw_meaning.specs.LookupLemmas.{found, placed}
 use Rattle.raw_meaning.specs.Lookups.{find, type_of, variant_of, constructor_of, same_kind, head_of_kind, definition_of}
 use Rattle.raw_meaning.specs.Numbers.{numbered}
 use Rattle.raw_meaning.specs.OptionLemmas.{some_so, mapped_made, followed_made, parts_by, parts_made}
 use Rattle.raw_meaning.specs.Outlines.{place_of, part_number, kind_by, kind_of}
 use Rattle.raw_meaning.specs.Trees.{constructor_id}
-use Rattle.raw_meaning.specs.Wants.{Wants, constructor_wants, name_wants, name_part_wants}
+use Rattle.raw_meaning.specs.Wants.{Wants, constructor_wants, name_wants}
 use Rattle.raw_soundness.specs.NumbersSpelled.{numbered_spelled}
-use Rattle.raw_soundness.specs.Spells.{Spells, over, next, seq}
+use Rattle.raw_soundness.specs.Spells.{Spells, over, next}
 
 -- ---- types
 

@@ -1,19 +1,18 @@
 -- Numbers are spelled as they are printed.
-use Rattle.std.specs.Prelude.{◌≡◌, refl, ℕ, ℤ, ◌^◌, ◌==◌, ◌&&◌, nat_lt, Bool, true, false, if◌then◌else◌, List, [], ◌∷◌, ◌++◌, Option, Some, None, bytes_eq, codes}
+use Rattle.std.specs.Prelude.{◌≡◌, refl, ℕ, ◌^◌, ◌==◌, ◌&&◌, nat_lt, Bool, true, false, if◌then◌else◌, List, [], ◌∷◌, ◌++◌, Option, Some, None, bytes_eq, codes}
 use Rattle.std.specs.Fmt.{decimal, signed_decimal}
-use Rattle.std.specs.Option.{option_map}
 use Rattle.std.specs.Str.Parse.{digits_value}
-use Rattle.std.proofs.Common.{ap, sym, ◌∙◌, subst}
+use Rattle.std.proofs.Common.{ap, sym, subst}
 use Rattle.std.proofs.lemmas.Bool.{eqb-true}
 use Rattle.aen_base.specs.declared.int_ty.IntTy.{IntTy}
 use Rattle.aen_base.specs.Numbers.{Number, in_range, signed}
 use Rattle.text_meaning.specs.Names.{are_digits}
 use Rattle.text_meaning.specs.SpelledNames.{var_token}
-use Rattle.text_meaning.specs.Tokens.{word, var_text}
+use Rattle.text_meaning.specs.Tokens.{word}
 use Rattle.text_syntax.specs.Among.{and_left, and_right}
 use Rattle.raw_ast.specs.declared.spelling.Spelling.{Spelling}
 use Rattle.raw_meaning.specs.LookupLemmas.{same_bytes}
-use Rattle.raw_meaning.specs.Numbers.{checked_number, small_number, numbered, magnitude, has_minus, valued, number_of}
+use Rattle.raw_meaning.specs.Numbers.{checked_number, numbered, magnitude, has_minus, number_of}
 use Rattle.raw_meaning.specs.Trees.{variable_number}
 
 -- what a test lets through

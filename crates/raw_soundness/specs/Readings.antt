@@ -1,5 +1,5 @@
 -- What is read as a part: its lexemes meet what the part wants, and its value has the part's shape, where each production keeps both.
-use Rattle.std.specs.Prelude.{◌≡◌, refl, ℕ, Bool, true, false, if◌then◌else◌, List, [], ◌∷◌, map}
+use Rattle.std.specs.Prelude.{◌≡◌, refl, Bool, true, false, if◌then◌else◌, List, [], ◌∷◌, map}
 use Rattle.std.proofs.Common.{ap, sym, ◌∙◌, subst, inl, inr}
 use Rattle.table_reader.specs.declared.symbol.Symbol.{Symbol}
 use Rattle.table_reader.specs.declared.symbol.Symbol.TheVariants as S
@@ -23,11 +23,11 @@ use Rattle.text_syntax.specs.Standing.{is_id}
 use Rattle.raw_values.specs.Carriers.{carrier}
 use Rattle.raw_reader.specs.Makes.{made}
 use Rattle.raw_reader.specs.Reading.{Reads}
-use Rattle.raw_meaning.specs.Wants.{Want, Wants, Meets}
+use Rattle.raw_meaning.specs.Wants.{Wants, Meets}
 use Rattle.raw_soundness.specs.BareNames.{bare_name}
 use Rattle.raw_soundness.specs.Met.{met}
 use Rattle.raw_soundness.specs.Shapes.{IsShaped, AreTaken, IsNameIfId}
-use Rattle.raw_soundness.specs.Symbols.{wants, want_of, all_wants}
+use Rattle.raw_soundness.specs.Symbols.{wants, all_wants}
 
 abbrev pub Made : Part → Type 0
 Made n = R.Made Terminal Part Lexeme carrier n

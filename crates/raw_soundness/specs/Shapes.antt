@@ -1,6 +1,6 @@
 -- What each part of the grammar gives besides its value: the shape of trees, and that declared names are names.
 use Rattle.std.specs.Prelude.{◌≡◌, true, List, [], ◌∷◌, Option, Some, None}
-use Rattle.aen_base.specs.declared.operators.Builtin.TheVariants.{BoxNew, Replace, Swap}
+use Rattle.aen_base.specs.declared.operators.Builtin.TheVariants.{Replace, Swap}
 use Rattle.pure_ast.specs.declared.comp.Primitive.{Primitive}
 use Rattle.pure_ast.specs.declared.comp.Primitive.TheVariants as P
 use Rattle.text_meaning.specs.Lists.{Each}

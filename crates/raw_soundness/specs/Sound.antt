@@ -1,6 +1,6 @@
 -- What is read of lexemes stands for what these lexemes spell (TEXT.md, "Reading").
-use Rattle.std.specs.Prelude.{◌≡◌, refl, ℕ, List, [], ◌∷◌, ◌++◌, map, Option, Some, None, codes}
-use Rattle.std.proofs.Common.{ap, sym, ◌∙◌, subst}
+use Rattle.std.specs.Prelude.{◌≡◌, refl, ℕ, List, [], ◌∷◌, map, Some}
+use Rattle.std.proofs.Common.{ap, ◌∙◌}
 use Rattle.pure_ast.specs.declared.def.Def.{Def}
 use Rattle.pure_ast.specs.declared.def.Defs.{Defs}
 use Rattle.pure_ast.specs.declared.def.PType.{PType}
@@ -9,10 +9,8 @@ use Rattle.pure_ast.specs.Types.{PTy}
 use Rattle.text_meaning.specs.Spelled.{tokens_of}
 use Rattle.text_meaning.specs.SpelledTerms.{term_tokens}
 use Rattle.text_meaning.specs.SpelledTypes.{type_tokens}
-use Rattle.text_meaning.specs.Tokens.{Token}
 use Rattle.text_tokens.specs.declared.lexeme.Lexeme.{Lexeme as Spelled}
 use Rattle.text_tokens.specs.Stands.{AllStand}
-use Rattle.text_table.specs.declared.lexeme.Lexeme.{Lexeme}
 use Rattle.text_table.specs.declared.part.Part.{Part}
 use Rattle.text_table.specs.declared.part.Part.TheVariants as N
 use Rattle.text_syntax.specs.Classing.{lexeme_of}
@@ -30,12 +28,12 @@ use Rattle.raw_meaning.specs.OptionLemmas.{both_made, none_left, none_right}
 use Rattle.raw_meaning.specs.Outlines.{outline_of}
 use Rattle.raw_meaning.specs.Shape.{IsShapedType, IsShapedAtom, IsShapedText}
 use Rattle.raw_meaning.specs.Trees.{each, type_tree, atom_tree, declaration_tree, definition_tree, definitions}
-use Rattle.raw_meaning.specs.Wants.{Wants, text_wants, definitions_wants}
+use Rattle.raw_meaning.specs.Wants.{text_wants, definitions_wants}
 use Rattle.raw_soundness.specs.AtomsSpelled.{atom_spelled}
 use Rattle.raw_soundness.specs.DeclarationsSpelled.{declarations_spelled}
 use Rattle.raw_soundness.specs.DefinitionsSpelled.{definitions_spelled}
 use Rattle.raw_soundness.specs.Kept.{kept}
-use Rattle.raw_soundness.specs.Readings.{BearsNames, AllMeet, IsRead, part_read}
+use Rattle.raw_soundness.specs.Readings.{BearsNames, AllMeet, part_read}
 use Rattle.raw_soundness.specs.Shapes.{IsShaped}
 use Rattle.raw_soundness.specs.Spelled.{spelled}
 use Rattle.raw_soundness.specs.Spells.{Spells, next, seq, all_stand}
@@ -95,8 +93,8 @@ text_spelled text d g e =
     let types : each (declaration_tree h) text.types ≡ Some d.types = m.is_first ∙ ap (λ (d : Defs). Some d.types) m.is in
     let defs : each (definition_tree h) text.definitions ≡ Some d.defs = m.is_second ∙ ap (λ (d : Defs). Some d.defs) m.is in
     next refl (next refl (next refl (next refl (seq
-      (declarations_spelled h d same [] [] text.types d.types (definitions_wants text.definitions []) (none_left first later g) types)
-      (definitions_spelled h d same (type_names text.types) [] text.definitions d.defs [] (none_right first later g) defs)))))
+    (declarations_spelled h d same [] [] text.types d.types (definitions_wants text.definitions []) (none_left first later g) types)
+    (definitions_spelled h d same (type_names text.types) [] text.definitions d.defs [] (none_right first later g) defs)))))
 
 -- a text that is read is of the grammar's shape, its declared names are names, and where it breaks no rule its lexemes are
 -- the tokens of the definitions that it stands for

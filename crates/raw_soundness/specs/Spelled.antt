@@ -1,5 +1,5 @@
 -- What a production makes wants what its symbols want. Written by tools/text_sound.py.
-use Rattle.std.specs.Prelude.{◌≡◌, refl}
+use Rattle.std.specs.Prelude.{refl}
 use Rattle.text_table.specs.declared.part.Part.{Part}
 use Rattle.text_table.specs.declared.part.Part.TheVariants as N
 use Rattle.raw_reader.specs.Makes.{made}

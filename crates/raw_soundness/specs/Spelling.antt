@@ -1,7 +1,7 @@
 -- What productions make wants what their symbols want, where that takes a case or a shape.
-use Rattle.std.specs.Prelude.{◌≡◌, refl, true, List, [], ◌∷◌, Option, Some, None, codes}
+use Rattle.std.specs.Prelude.{◌≡◌, refl, true, [], ◌∷◌, Option, Some, None, codes}
 use Rattle.std.specs.Fmt.{digits}
-use Rattle.std.proofs.Common.{ap, sym, ◌∙◌, subst}
+use Rattle.std.proofs.Common.{ap}
 use Rattle.aen_base.specs.declared.int_ty.IntTy.{IntTy}
 use Rattle.aen_base.specs.declared.operators.Builtin.TheVariants.{BoxNew, Replace, Swap}
 use Rattle.pure_ast.specs.declared.comp.Primitive.{Primitive}
@@ -9,11 +9,9 @@ use Rattle.pure_ast.specs.declared.comp.Primitive.TheVariants as P
 use Rattle.text_meaning.specs.declared.mark.Mark.TheVariants as M
 use Rattle.text_meaning.specs.Lists.{Each}
 use Rattle.text_meaning.specs.SpelledNames.{prim_tokens, dotted}
-use Rattle.text_meaning.specs.Tokens.{word}
 use Rattle.text_meaning.specs.Words.{int_word}
 use Rattle.text_syntax.specs.Among.{each_class}
 use Rattle.text_table.specs.declared.class.Class.{Class}
-use Rattle.text_table.specs.declared.class.Class.TheVariants as C
 use Rattle.text_table.specs.declared.lexeme.Lexeme.{Lexeme}
 use Rattle.text_table.specs.declared.terminal.Terminal.TheVariants as T
 use Rattle.text_table.specs.Classes.{classes, spelling}

@@ -1,7 +1,6 @@
 -- What is wanted is what tokens are, and lexemes that are what is wanted stand for these tokens.
-use Rattle.std.specs.Prelude.{◌≡◌, refl, ℕ, ℤ, List, [], ◌∷◌, ◌++◌}
-use Rattle.std.specs.Fmt.{signed_decimal}
-use Rattle.std.proofs.Common.{ap, sym, ◌∙◌, subst}
+use Rattle.std.specs.Prelude.{refl, List, [], ◌∷◌, ◌++◌}
+use Rattle.std.proofs.Common.{sym, subst}
 use Rattle.text_meaning.specs.Tokens.{Token, word, id, number, mark}
 use Rattle.text_tokens.specs.declared.lexeme.LexemeKind.{LexemeKind}
 use Rattle.text_tokens.specs.declared.lexeme.LexemeKind.TheVariants as L

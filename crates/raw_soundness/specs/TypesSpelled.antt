@@ -1,14 +1,13 @@
 -- Types as they are spelled are spelled as the types that they stand for.
-use Rattle.std.specs.Prelude.{◌≡◌, refl, ℕ, zero, suc, List, [], ◌∷◌, ◌++◌, length, Option, Some, None, codes}
-use Rattle.std.specs.Option.{option_map}
-use Rattle.std.proofs.Common.{ap, sym, ◌∙◌, subst}
+use Rattle.std.specs.Prelude.{◌≡◌, refl, ℕ, suc, List, length, Option, Some, None}
+use Rattle.std.proofs.Common.{ap, ◌∙◌, subst}
 use Rattle.pure_ast.specs.declared.def.Defs.{Defs}
 use Rattle.pure_ast.specs.Types as ty
 use Rattle.pure_ast.specs.Types.{PTy, PTys}
-use Rattle.text_meaning.specs.declared.mark.Mark.TheVariants.{Open, Close, Times}
-use Rattle.text_meaning.specs.Lookups.{or_empty, type_name, parameter_name}
+use Rattle.text_meaning.specs.declared.mark.Mark.TheVariants.{Close}
+use Rattle.text_meaning.specs.Lookups.{or_empty, type_name}
 use Rattle.text_meaning.specs.SpelledTypes.{type_tokens, types_tokens, times_tokens}
-use Rattle.text_meaning.specs.Tokens.{Token, word, id, mark}
+use Rattle.text_meaning.specs.Tokens.{id}
 use Rattle.raw_ast.specs.declared.spelling.Spelling.{Spelling}
 use Rattle.raw_ast.specs.Types as r
 use Rattle.raw_ast.specs.Types.{RawType, RawTypes, rawtypes_list}

@@ -4,9 +4,12 @@ pub mod ShownPatterns
 pub mod Forms
 pub mod ShownExpressions
 pub mod Shown
+pub mod Bare
 pub mod Tok
 pub mod WordTokens
 pub mod TypeTokens
 pub mod PatternTokens
 pub mod ExpressionTokens
 pub mod Tokens
+pub mod Laid
+pub mod ReadFrom

@@ -9,9 +9,15 @@ mod put;
 mod types;
 mod words;
 
-ghost use Rattle.std.specs.Prelude.{◌≡◌, IfOk};
+ghost use Rattle.std.specs.Prelude.{◌≡◌, IfOk, List};
+ghost use Rattle.rust_ast.specs.declared.program.Program.{Program};
+ghost use Rattle.rust_printer.specs.Bare.{Same};
+ghost use Rattle.rust_printer.specs.Laid.{Laid};
+ghost use Rattle.rust_printer.specs.ReadFrom.{IsRead};
 ghost use Rattle.rust_printer.specs.Tok.{spelled};
 ghost use Rattle.rust_printer.specs.Tokens.{program_tokens};
+ghost use Rattle.source_grammar.specs.declared.lexeme.Lexeme.{Lexeme};
+ghost use Rattle.source_ways.specs.Reading.{Reads};
 
 use aen_base::{NoMem, Text};
 use rust_ast::Program;
@@ -21,7 +27,8 @@ use std::alloc::Global;
 /// the dot of a field. The only error is want of memory.
 #[tactic(auto, using(crate::proofs::SpelledItems::as_spelled))]
 pub fn print(alloc: Global, program: &Program) -> Result<Text, NoMem>
-    ensures { IfOk result (λ t. t ≡ spelled (program_tokens program.now)) }
+    ensures layout { IfOk result (λ t. t ≡ spelled (program_tokens program.now)) }
+    ensures read_back { IsRead program.now → (ls : List Lexeme) → Laid 0 (program_tokens program.now) ls → (q : Program) × (Reads ls q × Same q program.now) }
 {
     let mut out = String::new(alloc);
     items::put_items(&mut out, program.items.as_slice())?;

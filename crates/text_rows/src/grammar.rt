@@ -1,18 +1,22 @@
-//! Where tokens leave the grammar, and what occurs in them.
+//! Where tokens leave the grammar.
 
 ghost use Rattle.std.specs.Prelude.{◌<◌, ◌^◌, length};
 
 use aen_base::NoMem;
+use raw_reader::read_text;
 use std::alloc::Global;
-use text_grammar::{Occurrence, Role, grammar_fault, occurrences};
+use text_syntax::lexemes_of;
 use text_tokens::lex;
 
 /// The fault of a text that has only tokens.
 fn fault_of(alloc: Global, text: &str) -> Result<Option<usize>, NoMem>
     requires { length text.now < 2 ^ 32 }
 {
-    let lexemes = lex(alloc, text)?;
-    grammar_fault(alloc, lexemes.list.as_slice())
+    let lexemes = lexemes_of(alloc, lex(alloc, text)?.list)?;
+    match read_text(alloc, lexemes.as_slice())? {
+        Ok(_) => Ok(None),
+        Err(number) => Ok(Some(number)),
+    }
 }
 
 /// A text of one definition with this code, which begins with token 30.
@@ -54,26 +58,5 @@ fn first_tokens_that_end_all_texts(rt: HostRuntime) -> Result<(), NoMem> {
         fault_of(rt.alloc(), definition!("let v0 ← (match v1 with)"))?,
         Some(33)
     );
-    Ok(())
-}
-
-#[test]
-fn what_occurs(rt: HostRuntime) -> Result<(), NoMem> {
-    let lexemes = lex(
-        rt.alloc(),
-        "import AenPrelude open AenPrelude def fn.f (n : Nat) (v0 : U8) : Result U8 := match n with | 0 => outOfFuel | n + 1 => do U8.add v0 1#U8",
-    )?;
-    let found = occurrences(rt.alloc(), lexemes.list.as_slice())?.expect(&rt, "a text");
-    let expected = [
-        (Role::Definition, 5, 0),
-        (Role::Parameter, 14, 0),
-        (Role::Variable, 38, 0),
-        (Role::Number, 39, 0),
-        (Role::Call, 35, 2),
-    ];
-    assert_eq!(rt; found.as_slice().len(), expected.len());
-    for (occurrence, (role, place, count)) in found.as_slice().iter().zip(expected) {
-        assert_eq!(rt; *occurrence, Occurrence { role, place, count });
-    }
     Ok(())
 }

@@ -1,9 +1,10 @@
 //! Words are read as values, and printed as they were written.
 use crate::round_trips::TEXT;
 use aen_base::{List, NoMem, Text};
-use lean_reader::{def_named, print_atom, read_args, read_defs};
+use lean_reader::read_defs;
 use std::alloc::Global;
 use std::test::Fail;
+use text_words::{def_named, print_atom, read_args};
 
 /// The arguments of a call of `fn.«é»`, read and printed again; None where they are not read.
 fn printed(alloc: Global) -> Result<Option<List<Text>>, NoMem> {

@@ -80,4 +80,3 @@ large_depth Isize = lit≤ tt
 pub digits_not_minus : (ds : List ℕ) → are_digits ds ≡ true → has_minus ds ≡ false
 digits_not_minus [] h = refl
 digits_not_minus (c ∷ cs) h = let k = and_left (is_ascii_digit c) (list_all is_ascii_digit cs) h in grind (arith, nat_tests)
-

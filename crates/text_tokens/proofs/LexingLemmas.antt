@@ -37,7 +37,7 @@ none_here c cs h kind spelling rest e s =
 
 cuts_step : (o : Next) (end n at c : ℕ) (text cs : List ℕ) → at + length text ≡ end → c ∷ cs ≡ back is_space text → length (c ∷ cs) ≤ suc n → lexeme_at c cs ≡ o →
     ((from : ℕ) (rest : List ℕ) → from + length rest ≡ end → length (back is_space rest) ≤ n →
-        Lexes from rest (cut end n (back is_space rest)).list (cut end n (back is_space rest)).fault) →
+    Lexes from rest (cut end n (back is_space rest)).list (cut end n (back is_space rest)).fault) →
     Lexes at text (cut_then end (length (c ∷ cs)) c o (λ rest. cut end n (back is_space rest))).list
     (cut_then end (length (c ∷ cs)) c o (λ rest. cut end n (back is_space rest))).fault
 cuts_step None end n at c text cs e h l x again =

@@ -7,7 +7,7 @@ use Rattle.raw_meaning.specs.Trees.{both}
 use Rattle.text_names.specs.Settled.{first, Settles, Keeps}
 use Rattle.text_trees.specs.declared.fault.SettleFault.{SettleFault}
 use Rattle.text_trees.specs.declared.fault.SettleFault.TheVariants.{Broken, Memory}
-use Rattle.text_trees.specs.Told.{told, kept, and_then, on_ok, Gives, Settled}
+use Rattle.text_trees.specs.Told.{and_then, on_ok, Gives, Settled}
 
 -- ---- the first of some places
 

@@ -1,11 +1,10 @@
 -- A node that breaks no rule has a value: so what is told of it is what the definitions give.
 use Rattle.std.proofs.Common.{◌≡◌, ℕ, List, [], ◌∷◌, ◌++◌, Some, None, Bool, true, false, refl, sym, subst}
-use Rattle.std.specs.Prelude.{Option, Result, Ok, Err, is_some, if◌then◌else◌, ◌==◌, codes}
+use Rattle.std.specs.Prelude.{Option, is_some, if◌then◌else◌, ◌==◌, codes}
 use Rattle.std.specs.Option.{option_map}
 use Rattle.std.proofs.lemmas.Bool.{eqb-true, eq-eqb}
 use Rattle.aen_base.specs.declared.int_ty.IntTy.{IntTy}
 use Rattle.aen_base.specs.declared.span.Span.{Span}
-use Rattle.pure_ast.specs.declared.ctor.CtorId.{CtorId}
 use Rattle.pure_ast.specs.declared.def.DefKind.{DefKind}
 use Rattle.text_meaning.specs.Ranges.{arity}
 use Rattle.raw_ast.specs.declared.computation.Operation.{Operation}
@@ -21,7 +20,7 @@ use Rattle.raw_meaning.specs.Rules as rule
 use Rattle.raw_meaning.specs.Rules.{unless, unless_parts, unless_declared}
 use Rattle.raw_meaning.specs.Trees.{variable_number, constructor_id, with_parts}
 use Rattle.text_names.specs.NamedTypes.{type_named}
-use Rattle.text_names.specs.Settled.{first, Settles, Keeps}
+use Rattle.text_names.specs.Settled.{Settles, Keeps}
 use Rattle.text_trees.specs.Nodes as nodes
 use Rattle.text_trees.specs.Told.{told, kept}
 

@@ -28,12 +28,11 @@ use Rattle.raw_meaning.specs.Trees.{both, three, four, each, type_tree, code_tre
 use Rattle.text_names.specs.Bearing.{all_bear}
 use Rattle.text_names.specs.Settled.{first, Settles, Keeps}
 use Rattle.text_trees.specs.declared.definitions.Parts.{Parts}
-use Rattle.text_trees.specs.declared.definitions.Signature.{Signature}
 use Rattle.text_trees.specs.Codes.{code_told}
 use Rattle.text_trees.specs.Declarations as d
 use Rattle.text_trees.specs.Definitions as s
 use Rattle.text_trees.specs.Nodes as nodes
-use Rattle.text_trees.specs.Told.{kept, and_then, on_ok}
+use Rattle.text_trees.specs.Told.{and_then, on_ok}
 use Rattle.text_trees.specs.Types.{type_told}
 use Rattle.text_trees.proofs.Agreeing.{some_is, first_stays, settles_then, settles_when, keeps_then, settles_map, settles_two, settles_some, as_is, re_form}
 use Rattle.text_trees.proofs.AgreeingNodes as node

@@ -1,6 +1,6 @@
 -- The parts of a type or an atom are as many as the items of their list.
 use Rattle.std.proofs.Common.{◌≡◌, ℕ, ◌<◌, List, [], ◌∷◌, length, ap, arith}
-use Rattle.std.specs.Prelude.{Result, Some}
+use Rattle.std.specs.Prelude.{Some}
 use Rattle.raw_ast.specs.declared.names.Constructor.{Constructor}
 use Rattle.raw_ast.specs.declared.spelling.Spelling.{Spelling}
 use Rattle.raw_ast.specs.Atoms.{RawAtom, built, rawatoms, rawatoms_back}

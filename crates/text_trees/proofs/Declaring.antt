@@ -1,7 +1,7 @@
 -- A turn over declarations and definitions: one more is told, and declared for those after it.
 use Rattle.std.proofs.Common.{◌≡◌, ℕ, ◌+◌, ◌<◌, List, [], ◌∷◌, ◌++◌, length, get_or, drop, refl, ap, sym, ◌∙◌, append_assoc, add-one, drop-cons, suc}
 use Rattle.std.specs.List.{list_all}
-use Rattle.std.specs.Prelude.{Bool, true, Result, Ok, Err}
+use Rattle.std.specs.Prelude.{true, Result, Ok, Err}
 use Rattle.aen_base.specs.declared.span.Span.{Span}
 use Rattle.pure_ast.specs.declared.def.Def.{Def}
 use Rattle.pure_ast.specs.declared.def.DefKind.{DefKind}
@@ -44,6 +44,16 @@ declared_turn h types next parameters after raw i d y done more whole l q a b e 
     w ∙ ap (λ (ds : List Declaration). behind done (declarations_told h types parameters ds)) (drop_at raw i d l q)
     ∙ one_more h types next parameters after d (drop (i + 1) raw) y done a b e f
     ∙ ap (λ (ys : List PType). behind ys (declarations_told h next after (drop (i + 1) raw))) (sym m)
+
+pub declared_fault : (h : Outline) (types next parameters : List (List ℕ)) (raw : List Declaration) (i : ℕ) (d : Declaration) (done : List PType) (whole : Result (List PType) Span) (place : Span) →
+    i < length raw → d ≡ get_or raw i d → new_type types parameters d.name ≡ Ok tt → next ≡ types ++ d.name.text ∷ [] →
+    whole ≡ behind done (declarations_told h types parameters (drop i raw)) → body_told h next d ≡ Err place → whole ≡ Err place
+declared_fault h types next parameters raw i d done whole place l q a b w e =
+    let told : body_told h (types ++ d.name.text ∷ []) d ≡ Err place = ap (λ (ts : List (List ℕ)). body_told h ts d) (sym b) ∙ e in
+    let rest = declarations_told h (types ++ d.name.text ∷ []) (parameters ++ texts d.parameters) (drop (i + 1) raw) in
+    let last = λ (o : Result PType Span). behind done (and_then o (λ y. on_ok (λ ys. y ∷ ys) rest)) in
+    w ∙ ap (λ (ds : List Declaration). behind done (declarations_told h types parameters ds)) (drop_at raw i d l q)
+    ∙ ap (λ o. last (and_then o (λ u. body_told h (types ++ d.name.text ∷ []) d))) a ∙ ap last told
 
 pub defined_turn : (h : Outline) (types : List (List ℕ)) (kinds next : List DefKind) (raw : List Definition) (i : ℕ) (d : Definition) (y : Def) (done more : List Def) (whole : Result (List Def) Span) →
     i < length raw → d ≡ get_or raw i d → definition_told h types kinds d ≡ Ok y → next ≡ kinds ++ y.kind ∷ [] → more ≡ done ++ y ∷ [] →

@@ -1,5 +1,5 @@
 -- What a rule tells of a node, in one answer.
-use Rattle.std.proofs.Common.{◌≡◌, List, [], ◌∷◌, Some, None, refl, ap, sym, ◌∙◌}
+use Rattle.std.proofs.Common.{◌≡◌, List, [], ◌∷◌, Some, refl, ap}
 use Rattle.std.specs.Prelude.{Option, Result, Ok, Err}
 use Rattle.aen_base.specs.declared.span.Span.{Span}
 use Rattle.text_names.specs.Settled.{first, Settles, Keeps}

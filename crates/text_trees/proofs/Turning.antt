@@ -19,6 +19,15 @@ pub passes : {A B S : Type 0} (f : S → Result A Span) (o : Result A Span) (who
 passes f o whole (Ok y) e h same k = absurd same
 passes f o whole (Err y) e h same k = subst (λ z. Gives whole (Err z)) (sym same) (passed_on f o whole e h k)
 
+given_on : {A B : Type 0} (o : Result A Span) (whole : Result B Span) (e : SettleFault) → Gives o (Err e) → ((place : Span) → o ≡ Err place → whole ≡ Err place) → Gives whole (Err e)
+given_on o whole (Broken place) h k = k place h
+given_on o whole Memory h k = tt
+
+pub gives_on : {A B : Type 0} (o : Result A Span) (whole : Result B Span) (x : Result B SettleFault) (e : SettleFault) →
+    Gives o (Err e) → IsErrAnd x (λ y. y ≡ e) → ((place : Span) → o ≡ Err place → whole ≡ Err place) → Gives whole x
+gives_on o whole (Ok y) e h same k = absurd same
+gives_on o whole (Err y) e h same k = subst (λ z. Gives whole (Err z)) (sym same) (given_on o whole e h k)
+
 module _ {F A : Type 0} (gives : F → A → Result A Span) where
   pub opened : (old new : List F) (f : F) (part now next whole : Result A Span) →
       new ≡ old ++ f ∷ [] → now ≡ and_then part (gives f) → part ≡ next → unwind gives old now ≡ whole → unwind gives new next ≡ whole

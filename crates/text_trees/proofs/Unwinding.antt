@@ -1,6 +1,6 @@
 -- A stack of parts that wait: the newest takes the value of the part in hand; a fault goes through all of them.
-use Rattle.std.proofs.Common.{◌≡◌, ℕ, ◌+◌, List, [], ◌∷◌, ◌++◌, refl, ap, sym, ◌∙◌, arith}
-use Rattle.std.specs.Prelude.{Result, Ok, Err}
+use Rattle.std.proofs.Common.{◌≡◌, ℕ, ◌+◌, List, [], ◌∷◌, ◌++◌, refl, ap, arith}
+use Rattle.std.specs.Prelude.{Result, Err}
 use Rattle.aen_base.specs.declared.span.Span.{Span}
 use Rattle.text_trees.specs.Told.{and_then, unwind, weigh}
 

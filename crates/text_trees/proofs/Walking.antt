@@ -1,5 +1,5 @@
--- A turn of a walk through a list, its end, and a step that fails.
-use Rattle.std.proofs.Common.{◌≡◌, ℕ, ◌+◌, ◌<◌, List, [], ◌∷◌, ◌++◌, length, get_or, drop, refl, ap, sym, ◌∙◌, append_assoc, add-one, drop-cons}
+-- Atoms are told one by one, and nothing stands behind no items.
+use Rattle.std.proofs.Common.{◌≡◌, List, [], ◌∷◌, refl, ap}
 use Rattle.std.specs.Prelude.{Result, Ok, Err}
 use Rattle.aen_base.specs.declared.span.Span.{Span}
 use Rattle.raw_ast.specs.Atoms.{RawAtom, rawatoms}

@@ -1,5 +1,5 @@
 -- What patterns, computations and code come to, step by step, and parts of code on a stack.
-use Rattle.std.specs.Prelude.{ℕ, ◌+◌, ◌*◌, List, [], ◌∷◌, ◌++◌, length, Result, Ok, Err}
+use Rattle.std.specs.Prelude.{ℕ, ◌+◌, ◌*◌, List, [], ◌∷◌, ◌++◌, length, Result, Ok}
 use Rattle.aen_base.specs.declared.span.Span.{Span}
 use Rattle.pure_ast.specs.declared.comp.Comp.{Comp}
 use Rattle.pure_ast.specs.declared.comp.Comp.TheVariants as comp

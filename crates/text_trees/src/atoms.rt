@@ -2,9 +2,11 @@
 
 ghost use Rattle.std.specs.Prelude.{◌≡◌, ◌<◌, IfOk};
 ghost use Rattle.raw_ast.specs.Atoms.{rawatoms, nodes_rawatom, nodes_rawatoms};
+ghost use Rattle.raw_meaning.specs.Faults.{atom_faults};
+ghost use Rattle.raw_meaning.specs.Trees.{atom_tree};
 ghost use Rattle.raw_meaning.specs.declared.outline.Outline.{Outline};
 ghost use Rattle.text_trees.specs.Atoms as spec;
-ghost use Rattle.text_trees.specs.Told.{Gives, Leads};
+ghost use Rattle.text_trees.specs.Told.{Gives, Leads, Settled};
 
 use crate::SettleFault;
 use crate::lists::split_first;
@@ -29,6 +31,17 @@ pub(crate) struct AtomFrame<'a> {
 pub(crate) enum AtomStep<'a> {
     Whole(Term),
     Within(AtomFrame<'a>, &'a RawAtom),
+}
+
+/// The term that is spelled so; the tables tell what the text declares.
+///
+/// # Errors
+/// `Broken` exactly at the first place where a rule beside the grammar is broken, of an atom that
+/// breaks one; `Memory` for want of memory, which may come at any atom.
+pub fn atom_of(alloc: Global, tables: &Tables, raw: &RawAtom) -> Result<Term, SettleFault>
+    ensures { Settled (atom_faults tables.now raw.now) (atom_tree tables.now raw.now) result }
+{
+    settle_atom(alloc, tables, raw)
 }
 
 /// The term that is spelled so.
@@ -72,11 +85,7 @@ pub(crate) fn settle_atoms(
 }
 
 /// Begins an atom.
-fn begin<'a>(
-    alloc: Global,
-    tables: &Tables,
-    raw: &'a RawAtom,
-) -> Result<AtomStep<'a>, SettleFault>
+fn begin<'a>(alloc: Global, tables: &Tables, raw: &'a RawAtom) -> Result<AtomStep<'a>, SettleFault>
     ensures meaning { Leads (spec.atom_told tables.now raw.now) (spec.step_told tables.now) result }
     ensures cost { IfOk result (λ s. spec.step_cost s < nodes_rawatom raw.now) }
 {

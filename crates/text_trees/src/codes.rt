@@ -60,11 +60,7 @@ pub(crate) fn settle_code(
 }
 
 /// Begins code.
-fn begin<'a>(
-    alloc: Global,
-    tables: &Tables,
-    raw: &'a RawCode,
-) -> Result<CodeStep<'a>, SettleFault>
+fn begin<'a>(alloc: Global, tables: &Tables, raw: &'a RawCode) -> Result<CodeStep<'a>, SettleFault>
     ensures meaning { Leads (spec.code_told tables.now raw.now) (spec.step_told tables.now) result }
     ensures cost { IfOk result (λ s. spec.step_cost s < 2 * nodes_rawcode raw.now) }
 {

@@ -14,5 +14,7 @@ mod new_names;
 mod rules;
 mod types;
 
+pub use atoms::atom_of;
 pub use definitions::definitions_of;
 pub use fault::SettleFault;
+pub use types::type_of;

@@ -3,7 +3,9 @@
 ghost use Rattle.std.specs.Prelude.{◌≡◌, ◌<◌, ◌*◌, ℕ, List, IfOk};
 ghost use Rattle.raw_ast.specs.Types.{rawtypes, nodes_rawtype, nodes_rawtypes};
 ghost use Rattle.raw_meaning.specs.declared.outline.Outline.{Outline};
-ghost use Rattle.text_trees.specs.Told.{Gives, Leads};
+ghost use Rattle.raw_meaning.specs.Faults.{type_faults};
+ghost use Rattle.raw_meaning.specs.Trees.{type_tree};
+ghost use Rattle.text_trees.specs.Told.{Gives, Leads, Settled};
 ghost use Rattle.text_trees.specs.Types as spec;
 
 use crate::SettleFault;
@@ -33,7 +35,24 @@ pub(crate) enum TypeStep<'a> {
     Within(TypeFrame<'a>, &'a RawType),
 }
 
-/// The type that is spelled so, in a declaration with these type parameters.
+/// The type that is spelled so, in a declaration with these type parameters; the tables tell what the
+/// text declares.
+///
+/// # Errors
+/// `Broken` exactly at the first place where a rule beside the grammar is broken, of a type that breaks
+/// one; `Memory` for want of memory, which may come at any type.
+pub fn type_of(
+    alloc: Global,
+    tables: &Tables,
+    parameters: &Names,
+    raw: &RawType,
+) -> Result<PTy, SettleFault>
+    ensures { Settled (type_faults tables.now parameters.now raw.now) (type_tree tables.now parameters.now raw.now) result }
+{
+    settle_type(alloc, tables, parameters, raw)
+}
+
+/// The type that is spelled so.
 pub(crate) fn settle_type(
     alloc: Global,
     tables: &Tables,

@@ -1,45 +1,36 @@
--- What is read of a text's lexemes is what the text is.
-use Rattle.std.proofs.Common.{◌∙◌, sym, ap, refl, subst}
-use Rattle.std.specs.Prelude.{Err}
-use Rattle.lean_reader.specs.Lexemes.{AreOnly, AreNone, IsReadOf}
-use Rattle.lean_reader.specs.WordReading.{few_lexemes}
-use Rattle.lean_reader.proofs.KeptRules.{breaks_one}
-use Rattle.lean_reader.proofs.Proper.{unread}
-use Rattle.lean_reader.proofs.TextsRead.{is_read, is_nested, is_unread, no_fault, some_fault}
+use Rattle.std.proofs.Common.{◌≡◌, ap, ◌∙◌, subst, length, List}
+use Rattle.text_table.specs.declared.lexeme.Lexeme.{Lexeme}
+use Rattle.text_syntax.specs.Brackets.{few_lexemes}
+use Rattle.lean_reader.specs.Faults.{classed}
+use Rattle.lean_reader.specs.Placed.{IsPlaced}
+use Rattle.lean_reader.proofs.ReadingLemmas.{Lexing, is_read, is_fault, grammar_fault, answered, answered_at, not_read, handed_on}
 use Rattle.lean_reader.proofs.read.read_defs.Goals as goal
 
-pub returns-then-is_some : goal.returns-then-is_some
-returns-then-is_some c = (
-  unread c.args.text.now (c.in_ok-lexemes.ensures.none (some_fault c.in_ok-lexemes.lexemes.fault (sym c.is_some.ensures ∙ c.if-is_some.true))),
-  c.in_ok-fault_place.ensures,
-)
-
-pub returns-then-not-has_few_brackets : goal.returns-then-not-has_few_brackets
-returns-then-not-has_few_brackets c =
-    let ls = c.in_ok-lexemes.lexemes.list in
-    let lexed = c.in_ok-lexemes.ensures.exact (no_fault c.in_ok-lexemes.lexemes.fault (sym c.is_some.ensures ∙ c.if-is_some.false)) in
-    let only = subst (λ s. AreOnly s c.in-Ok.defs) c.as_slice.ensures c.in-Ok.ensures in
-    let many = ap (few_lexemes 0) (sym c.as_slice-in-Ok.ensures) ∙ sym c.has_few_brackets.ensures ∙ c.if-not-has_few_brackets.true in
-    (refl, refl, is_nested ls c.args.text.now lexed c.in-Ok.defs only many)
+pub returns-in_err-definitions_within-in-Ok : goal.returns-in_err-definitions_within-in-Ok
+returns-in_err-definitions_within-in-Ok c =
+    let l = c.in_ok-list.field-0 in
+    let h : Lexing c.args.text.now l = record { exact = c.in_ok-list.ensures.exact; none = c.in_ok-list.ensures.none; lexed = c.in_ok-list.ensures.lexed; names = c.in_ok-list.ensures.names } in
+    let g = answered _ c.as_slice-2.result.now c.in_ok-raw.field-0 c.in-Ok.raw (c.as_slice-2.ensures ∙ c.in_ok-lexemes.ensures) c.in-Ok.is c.in_ok-raw.ensures.exact in
+    let few = c.has_few_brackets-has_few.ensures ∙ ap (few_lexemes 0) c.as_slice.ensures in
+    handed_on c.args.text.now c.from_residual-in_err-definitions_within-in-Ok.result c.in_err-definitions_within-in-Ok.field-0.0 c.from_residual-in_err-definitions_within-in-Ok.ensures.1
+    (is_fault c.args.text.now l c.in-Ok.raw c.in_err-definitions_within-in-Ok.field-0.0 c.has_few_brackets-has_few.result h g few c.in_err-definitions_within-in-Ok.ensures)
 
 pub returns-in-Ok : goal.returns-in-Ok
 returns-in-Ok c =
-    let ls = c.in_ok-lexemes.lexemes.list in
-    let lexed = c.in_ok-lexemes.ensures.exact (no_fault c.in_ok-lexemes.lexemes.fault (sym c.is_some.ensures ∙ c.if-is_some.false)) in
-    let only = subst (λ s. AreOnly s c.in-Ok.defs) c.as_slice.ensures c.in-Ok.ensures in
-    let few = ap (few_lexemes 0) (sym c.as_slice-in-Ok.ensures) ∙ sym c.has_few_brackets.ensures ∙ c.if-not-has_few_brackets.false in
-    is_read ls c.args.text.now lexed c.in-Ok.defs only few
+    let l = c.in_ok-list.field-0 in
+    let h : Lexing c.args.text.now l = record { exact = c.in_ok-list.ensures.exact; none = c.in_ok-list.ensures.none; lexed = c.in_ok-list.ensures.lexed; names = c.in_ok-list.ensures.names } in
+    let g = answered _ c.as_slice-2.result.now c.in_ok-raw.field-0 c.in-Ok.raw (c.as_slice-2.ensures ∙ c.in_ok-lexemes.ensures) c.in-Ok.is c.in_ok-raw.ensures.exact in
+    let few = c.has_few_brackets-has_few.ensures ∙ ap (few_lexemes 0) c.as_slice.ensures in
+    is_read c.args.text.now l c.in-Ok.raw c.in_ok-definitions_within-in-Ok.field-0 c.has_few_brackets-has_few.result h g few c.in_ok-definitions_within-in-Ok.ensures
 
-pub returns-in-Err-Syntax : goal.returns-in-Err-Syntax
-returns-in-Err-Syntax c =
-    let ls = c.in_ok-lexemes.lexemes.list in
-    let lexed = c.in_ok-lexemes.ensures.exact (no_fault c.in_ok-lexemes.lexemes.fault (sym c.is_some.ensures ∙ c.if-is_some.false)) in
-    let none = subst AreNone c.as_slice.ensures (subst (λ f. IsReadOf c.as_slice.result.now (Err f)) c.in-Err-Syntax.field-0-is c.in-Err-Syntax.ensures) in
-    (is_unread ls c.args.text.now lexed none, c.in_ok-fault_place-in-Err-Syntax.ensures)
-
-pub fault_place-requires-in-Err-Syntax-clause-broken : goal.fault_place-requires-in-Err-Syntax-clause-broken
-fault_place-requires-in-Err-Syntax-clause-broken c =
-    let ls = c.in_ok-lexemes.lexemes.list in
-    let lexed = c.in_ok-lexemes.ensures.exact (no_fault c.in_ok-lexemes.lexemes.fault (sym c.is_some.ensures ∙ c.if-is_some.false)) in
-    let none = subst AreNone c.as_slice.ensures (subst (λ f. IsReadOf c.as_slice.result.now (Err f)) c.in-Err-Syntax.field-0-is c.in-Err-Syntax.ensures) in
-    λ whole kept. breaks_one c.args.text.now ls lexed none kept
+pub returns : goal.returns
+returns c =
+    let l = c.in_ok-list.field-0 in
+    let h : Lexing c.args.text.now l = record { exact = c.in_ok-list.ensures.exact; none = c.in_ok-list.ensures.none; lexed = c.in_ok-list.ensures.lexed; names = c.in_ok-list.ensures.names } in
+    let ls = classed l.list in
+    let e : c.as_slice-2.result.now ≡ ls = c.as_slice-2.ensures ∙ c.in_ok-lexemes.ensures in
+    let f : c.as_slice-in-Err.result.now ≡ ls = c.as_slice-in-Err.ensures ∙ c.in_ok-lexemes.ensures in
+    let n = not_read ls c.as_slice-2.result.now c.in_ok-raw.field-0 c.in-Err.number e c.in-Err.is c.in_ok-raw.ensures.not_read in
+    let a = answered_at ls c.as_slice-2.result.now c.in_ok-raw.field-0 c.in-Err.number e c.in-Err.is c.in_ok-raw.ensures.exact in
+    let p = subst (λ (ms : List Lexeme). IsPlaced ms c.in-Err.number l.fault (length c.args.text.now) c.place_of-place.result) f c.place_of-place.ensures in
+    grammar_fault c.args.text.now l c.in-Err.number c.place_of-place.result h n a p

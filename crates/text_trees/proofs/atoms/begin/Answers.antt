@@ -3,7 +3,7 @@ use Rattle.std.proofs.Common.{◌≡◌, ap, sym, ◌∙◌, subst}
 use Rattle.raw_ast.specs.Atoms.{built, rawatoms}
 use Rattle.raw_ast.specs.AtomView.{atom_of}
 use Rattle.text_trees.specs.Told.{Leads}
-use Rattle.text_trees.specs.Atoms.{atom_told, built_told, step_told}
+use Rattle.text_trees.specs.Atoms.{atom_told, step_told}
 use Rattle.text_trees.proofs.Counting.{built_is}
 use Rattle.text_trees.proofs.atoms.begin.Goals as goal
 

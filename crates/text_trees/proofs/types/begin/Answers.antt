@@ -3,7 +3,7 @@ use Rattle.std.proofs.Common.{◌≡◌, ap, sym, ◌∙◌, subst}
 use Rattle.raw_ast.specs.Types.{named, rawtypes}
 use Rattle.raw_ast.specs.TypeView.{type_of}
 use Rattle.text_trees.specs.Told.{Leads}
-use Rattle.text_trees.specs.Types.{type_told, named_told, step_told}
+use Rattle.text_trees.specs.Types.{type_told, step_told}
 use Rattle.text_trees.proofs.Counting.{named_is}
 use Rattle.text_trees.proofs.types.begin.Goals as goal
 

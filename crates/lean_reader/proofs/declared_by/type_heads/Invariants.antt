@@ -1,7 +1,0 @@
--- What is made so far.
-use Rattle.std.proofs.Common.{◌≡◌, take, map}
-use Rattle.lean_reader.specs.Outlines.{type_head}
-use Rattle.lean_reader.proofs.declared_by.type_heads.Given as goal
-
-abbrev pub invariant-loop-ty : goal.invariant-loop-ty
-invariant-loop-ty l = l.heads ≡ map type_head (take l.ty-index l.types)

@@ -1,7 +1,0 @@
--- What is made so far.
-use Rattle.std.proofs.Common.{◌≡◌, take, map}
-use Rattle.lean_reader.specs.Outlines.{variant_head}
-use Rattle.lean_reader.proofs.declared_by.variant_heads.Given as goal
-
-abbrev pub invariant-loop-variant : goal.invariant-loop-variant
-invariant-loop-variant l = l.heads ≡ map variant_head (take l.variant-index l.variants)

@@ -1,7 +1,0 @@
-use Rattle.std.proofs.Common.{bytes_eq, take}
-use Rattle.indexmap.specs.IndexMap.{get}
-use Rattle.lean_reader.proofs.Placing.{Agreeing}
-use Rattle.lean_reader.proofs.named.places_of.Given as goal
-
-abbrev pub invariant-loop-place : goal.invariant-loop-place
-invariant-loop-place g l = Agreeing bytes_eq g.T.Named.name_of (take l.place l.items) (get bytes_eq l.table)

@@ -1,7 +1,0 @@
--- What is left of the piece and of the text decide.
-use Rattle.std.proofs.Common.{◌≡◌, drop}
-use Rattle.lean_reader.specs.Pieces as spec
-use Rattle.lean_reader.proofs.naming_words.after.Given as goal
-
-abbrev pub invariant-loop-byte : goal.invariant-loop-byte
-invariant-loop-byte l = spec.after (drop l.byte-index l.piece) l.rest ≡ spec.after l.piece l.text

@@ -1,7 +1,0 @@
--- No definition before this place has the name.
-use Rattle.std.proofs.Common.{◌≡◌}
-use Rattle.lean_reader.specs.NamedDefinitions.{NoneNamed}
-use Rattle.lean_reader.proofs.naming_words.def_named.Given as goal
-
-abbrev pub invariant-loop-definition : goal.invariant-loop-definition
-invariant-loop-definition l = record { place : l.number ≡ l.definition-index; none : NoneNamed l.defs l.name l.number }

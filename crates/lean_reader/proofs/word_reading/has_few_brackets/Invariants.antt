@@ -1,7 +1,0 @@
--- The lexemes that are left and the brackets that are open decide.
-use Rattle.std.proofs.Common.{◌≡◌, drop}
-use Rattle.lean_reader.specs.WordReading.{few_lexemes}
-use Rattle.lean_reader.proofs.word_reading.has_few_brackets.Given as goal
-
-abbrev pub invariant-loop-token : goal.invariant-loop-token
-invariant-loop-token l = few_lexemes l.held (drop l.token-index l.tokens) ≡ few_lexemes 0 l.tokens
