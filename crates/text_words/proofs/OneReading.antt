@@ -1,5 +1,5 @@
 -- Lexemes are read as one part at most, so they are one term and one type at most.
-use Rattle.std.proofs.Common.{◌≡◌, ap, sym, ◌∙◌, subst, ℕ, List, [], Some}
+use Rattle.std.proofs.Common.{◌≡◌, ap, sym, ◌∙◌, subst, List, []}
 use Rattle.std.proofs.lemmas.Option.{same_Some}
 use Rattle.pure_ast.specs.Terms.{Term}
 use Rattle.pure_ast.specs.Types.{PTy}
@@ -9,19 +9,15 @@ use Rattle.table_reader.specs.declared.symbol.Symbol.{Symbol}
 use Rattle.table_reader.proofs.Unique.{unique}
 use Rattle.text_table.specs.declared.lexeme.Lexeme.{Lexeme}
 use Rattle.text_table.specs.declared.part.Part.{Part}
-use Rattle.text_table.specs.declared.part.Part.TheVariants as N
 use Rattle.text_table.specs.declared.terminal.Terminal.{Terminal}
 use Rattle.text_table.specs.Fit.{fits}
 use Rattle.text_table.specs.Lexemes.{takes, weight}
 use Rattle.text_table.specs.Productions.{productions, rank}
-use Rattle.raw_ast.specs.Atoms.{RawAtom}
-use Rattle.raw_ast.specs.Types.{RawType}
 use Rattle.raw_values.specs.Carriers.{carrier}
 use Rattle.raw_reader.specs.Made.{same_productions}
 use Rattle.raw_reader.specs.Makes.{made}
 use Rattle.raw_reader.specs.Reading.{Reads, IsRead}
 use Rattle.raw_meaning.specs.declared.outline.Outline.{Outline}
-use Rattle.raw_meaning.specs.Faults.{type_faults, atom_faults}
 use Rattle.raw_meaning.specs.Trees.{type_tree, atom_tree}
 use Rattle.text_words.specs.WordReading.{IsTermRead, IsTypeRead}
 
@@ -39,10 +35,3 @@ term_once h ls t u a b = same_Some t u (sym a.tree ∙ ap (atom_tree h) (b.read.
 
 pub type_once : (h : Outline) (ls : List Lexeme) (t u : PTy) → IsTypeRead h ls t → IsTypeRead h ls u → t ≡ u
 type_once h ls t u a b = same_Some t u (sym a.tree ∙ ap (type_tree h []) (b.read.only a.raw a.read.reads) ∙ b.tree)
-
--- what is read breaks no rule where anything that is read so breaks none
-pub term_kept : (h : Outline) (ls : List Lexeme) (raw : RawAtom) (t : Term) → IsRead N.Atom ls raw → IsTermRead h ls t → atom_faults h raw ≡ []
-term_kept h ls raw t r a = ap (atom_faults h) (a.read.only raw r.reads) ∙ a.faults
-
-pub type_kept : (h : Outline) (ls : List Lexeme) (raw : RawType) (t : PTy) → IsRead N.Type ls raw → IsTypeRead h ls t → type_faults h [] raw ≡ []
-type_kept h ls raw t r a = ap (type_faults h []) (a.read.only raw r.reads) ∙ a.faults

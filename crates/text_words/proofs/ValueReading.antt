@@ -1,6 +1,6 @@
 -- A word is read as the value that it is, and a piece as the type that it is.
-use Rattle.std.proofs.Common.{◌≡◌, refl, ap, sym, ◌∙◌, subst, ℕ, Bool, true, false, List, [], ◌∷◌, map, length, Option, Some, None, ◌⊎◌, inl, inr}
-use Rattle.std.specs.Prelude.{if◌then◌else◌, MatchOption, Result, Ok, Err, IfOk, is_some}
+use Rattle.std.proofs.Common.{◌≡◌, refl, ap, sym, ◌∙◌, subst, ℕ, Bool, true, false, List, [], map, Option, Some, None, ◌⊎◌, inl, inr}
+use Rattle.std.specs.Prelude.{if◌then◌else◌, MatchOption, Result, IfOk, is_some}
 use Rattle.std.specs.Option.{option_and_then}
 use Rattle.std.proofs.lemmas.Option.{same_Some}
 use Rattle.std.proofs.lemmas.Result.{IfOk-weaker}
@@ -196,3 +196,22 @@ pub piece_read : {E : Type 0} (d : Defs) (h : Outline) (ls : List Spelled) (text
 piece_read d h ls text r formed own lexed named k =
     IfOk-weaker r (λ o. Finds (IsTypeOf h ls) o) (λ o. MatchOption o ((t : PTy) → IsPiece d text t → ⊥) (λ t. IsPiece d text t))
     (λ o f. piece_exact d formed ls text lexed named o (subst (λ (h : Outline). Finds (IsTypeOf h ls) o) own f)) k
+
+-- few brackets beside what is read of lexemes with their classes
+term_some : (h : Outline) (ls : List Spelled) (o : Option Term) → few_lexemes 0 ls ≡ true → Finds (IsTermRead h (map lexeme_of ls)) o → Finds (IsTermOf h ls) o
+term_some h ls None few f = λ t g. f t g.term
+term_some h ls (Some t) few f = record { few = few; term = f }
+
+pub term_within : {E : Type 0} (h : Outline) (ls : List Spelled) (qs : List Lexeme) (r : Result (Option Term) E) → few_lexemes 0 ls ≡ true → qs ≡ map lexeme_of ls →
+    IfOk r (λ o. Finds (IsTermRead h qs) o) → IfOk r (λ o. Finds (IsTermOf h ls) o)
+term_within h ls qs r few e k =
+    IfOk-weaker r (λ o. Finds (IsTermRead h qs) o) (λ o. Finds (IsTermOf h ls) o) (λ o f. term_some h ls o few (subst (λ (x : List Lexeme). Finds (IsTermRead h x) o) e f)) k
+
+type_some : (h : Outline) (ls : List Spelled) (o : Option PTy) → few_lexemes 0 ls ≡ true → Finds (IsTypeRead h (map lexeme_of ls)) o → Finds (IsTypeOf h ls) o
+type_some h ls None few f = λ t g. f t g.type
+type_some h ls (Some t) few f = record { few = few; type = f }
+
+pub type_within : {E : Type 0} (h : Outline) (ls : List Spelled) (qs : List Lexeme) (r : Result (Option PTy) E) → few_lexemes 0 ls ≡ true → qs ≡ map lexeme_of ls →
+    IfOk r (λ o. Finds (IsTypeRead h qs) o) → IfOk r (λ o. Finds (IsTypeOf h ls) o)
+type_within h ls qs r few e k =
+    IfOk-weaker r (λ o. Finds (IsTypeRead h qs) o) (λ o. Finds (IsTypeOf h ls) o) (λ o f. type_some h ls o few (subst (λ (x : List Lexeme). Finds (IsTypeRead h x) o) e f)) k

@@ -8,7 +8,8 @@ ghost use Rattle.text_meaning.specs.ShownTerms.{term_text};
 ghost use Rattle.text_meaning.specs.SpelledTerms.{term_tokens};
 ghost use Rattle.text_meaning.specs.ValueTerms.{value_term};
 ghost use Rattle.text_meaning.specs.WellFormed.{IsWellFormed};
-ghost use Rattle.text_words.specs.ValueWords.{IsWord, few_open};
+ghost use Rattle.text_syntax.specs.Brackets.{few_open};
+ghost use Rattle.text_words.specs.ValueWords.{IsWord};
 
 use aen_base::{NoMem, Text};
 use lean_printer::print_value;

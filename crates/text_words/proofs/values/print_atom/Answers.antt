@@ -9,7 +9,8 @@ use Rattle.text_meaning.specs.ShownTerms.{term_text}
 use Rattle.text_meaning.specs.SpelledTerms.{term_tokens}
 use Rattle.text_meaning.specs.ValueTerms.{value_term}
 use Rattle.text_meaning.specs.WellFormed.{IsWellFormed}
-use Rattle.text_words.specs.ValueWords.{IsWord, few_open}
+use Rattle.text_syntax.specs.Brackets.{few_open}
+use Rattle.text_words.specs.ValueWords.{IsWord}
 use Rattle.text_words.proofs.values.print_atom.Goals as goal
 
 pub returns-clause-read_back : goal.returns-clause-read_back
