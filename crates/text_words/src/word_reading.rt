@@ -87,11 +87,7 @@ fn value_of(
 }
 
 /// The term that lexemes are. The only error is want of memory.
-fn read_term(
-    alloc: Global,
-    tables: &Tables,
-    lexemes: List<Lexeme>,
-) -> Result<Option<Term>, NoMem>
+fn read_term(alloc: Global, tables: &Tables, lexemes: List<Lexeme>) -> Result<Option<Term>, NoMem>
     ensures { IfOk result (λ o. spec.Finds (spec.IsTermOf tables.now lexemes) o) }
 {
     if !has_few_brackets(lexemes.as_slice()) {
