@@ -1,0 +1,7 @@
+mod Parts
+mod Pieces
+mod PuttingIn
+mod Typed
+mod ArgumentLists
+mod OneReading
+mod ValueReading

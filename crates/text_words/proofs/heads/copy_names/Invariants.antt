@@ -1,0 +1,6 @@
+-- What is made so far.
+use Rattle.std.proofs.Common.{◌≡◌, take}
+use Rattle.text_words.proofs.heads.copy_names.Given as goal
+
+abbrev pub invariant-loop-name : goal.invariant-loop-name
+invariant-loop-name l = l.all ≡ take l.name-index l.names

@@ -1,0 +1,5 @@
+pub mod ValueWords
+pub mod NamedDefinitions
+pub mod Pieces
+pub mod Typing
+pub mod WordReading
