@@ -23,3 +23,9 @@ mod Keeps
 mod KeptTrees
 mod KeptParts
 mod KeptReading
+mod Blanks
+mod BlankTokens
+mod Sequences
+mod LexedNames
+mod LexedMarks
+mod LexedNumbers
