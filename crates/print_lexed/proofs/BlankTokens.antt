@@ -15,7 +15,7 @@ use Rattle.rust_lex.specs.Identifiers.{is_identifier, is_lifetime}
 use Rattle.rust_lex.specs.Numbers.{is_number, are_digits}
 use Rattle.rust_lex.specs.Punctuation.{is_mark}
 use Rattle.rust_lex.specs.Lexing.{IsToken, IsLongest, is_form, kind_of, is_string, closes_string}
-use Rattle.rust_printer.proofs.Blanks.{has_blank, none, and_first, and_second, blank_between, mark_pure, digits_pure, number_pure, identifier_pure}
+use Rattle.print_lexed.proofs.Blanks.{has_blank, none, and_first, and_second, blank_between, mark_pure, digits_pure, number_pure, identifier_pure}
 
 -- what is longer goes on over the blank
 longer : (w rest : List ℕ) (m : ℕ) → (m ≤ length w) ⊎ ((v : List ℕ) × (take m (w ++ (32 ∷ rest)) ≡ w ++ (32 ∷ v)))
