@@ -1,5 +1,5 @@
 -- What a program says which is read of proper lexemes: by induction on how it is read.
-use Rattle.std.proofs.Common.{◌≡◌, refl, sym, ap, subst, ◌∙◌, inl, inr, ℕ, arith, ◌≤◌, Bool, true, false, if◌then◌else◌, List, [], ◌∷◌}
+use Rattle.std.proofs.Common.{◌≡◌, refl, sym, ap, subst, ◌∙◌, inl, inr, ℕ, arith, Bool, true, false, if◌then◌else◌, List, [], ◌∷◌}
 use denote.Enum.Bare.{sameb, same_true}
 use Rattle.aen_base.specs.declared.span.Span.{Span}
 use Rattle.table_reader.specs.declared.symbol.Symbol.{Symbol}

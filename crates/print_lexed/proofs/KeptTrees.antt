@@ -1,5 +1,5 @@
 -- What is made of trees that keep what is kept keeps it too.
-use Rattle.std.proofs.Common.{◌≡◌, refl, ℕ, Bool, true, false, if◌then◌else◌, List, [], ◌∷◌, Option, Some, None}
+use Rattle.std.proofs.Common.{ℕ, Bool, true, false, if◌then◌else◌, List, [], ◌∷◌, Option, Some, None}
 use Rattle.aen_base.specs.declared.span.Span.{Span}
 use Rattle.aen_base.specs.declared.int_ty.IntTy.{IntTy}
 use Rattle.source_grammar.specs.declared.class.Class.{Class}

@@ -1,5 +1,5 @@
 -- The tokens of expressions, statements and blocks are lexed as themselves.
-use Rattle.std.proofs.Common.{◌≡◌, refl, ℕ, Bool, true, false, List, ◌∷◌}
+use Rattle.std.proofs.Common.{refl, Bool, true, false, List, ◌∷◌}
 use Rattle.rust_ast.specs.Source as s
 use Rattle.rust_ast.specs.SourceTypes as t
 use Rattle.rust_ast.specs.SourcePatterns as p

@@ -1,5 +1,5 @@
 -- The tokens of items are lexed as themselves.
-use Rattle.std.proofs.Common.{◌≡◌, refl, ℕ, false, List, [], ◌∷◌, Option, Some, None}
+use Rattle.std.proofs.Common.{refl, ℕ, false, List, [], ◌∷◌, Option, Some, None}
 use Rattle.aen_base.specs.declared.span.Span.{Span}
 use Rattle.rust_ast.specs.declared.ident.Ident.{Ident}
 use Rattle.rust_ast.specs.declared.program.Item.{Item}

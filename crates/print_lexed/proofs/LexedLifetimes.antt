@@ -1,6 +1,6 @@
 -- Lifetimes, and places of fields, are lexed as themselves.
-use Rattle.std.proofs.Common.{◌≡◌, refl, ap, sym, ◌∙◌, ℕ, zero, suc, ◌<◌, Bool, true, false, List, [], ◌∷◌, ◌++◌, length, get_or, Some, None, IsUtf8, chars, codes, arith}
-use Rattle.std.specs.Prelude.{◌&&◌, ◌||◌, ◌==◌, not, nat_lt, bytes_eq, if◌then◌else◌}
+use Rattle.std.proofs.Common.{◌≡◌, refl, ap, sym, ◌∙◌, ℕ, zero, suc, ◌<◌, Bool, true, false, List, [], ◌∷◌, get_or, Some, None, chars, codes, arith}
+use Rattle.std.specs.Prelude.{◌&&◌, ◌||◌, ◌==◌, not, bytes_eq, if◌then◌else◌}
 use Rattle.std.specs.List.{list_all}
 use Rattle.std.specs.Char.{is_ascii_digit}
 use Rattle.std.specs.Str.{is_utf8}
@@ -8,18 +8,15 @@ use Rattle.std.proofs.lemmas.Bool.{eqb-true}
 use Rattle.std.proofs.lemmas.Bool.Decides.{nat_tests}
 use Rattle.std.proofs.lemmas.Str.{chars-IsAscii, IsUtf8-from_ascii, IsUtf8-append}
 use Rattle.unicode_ident.specs.Ident.{is_xid_continue}
-use Rattle.rust_lex.specs.declared.token.Kind.{Kind}
 use Rattle.rust_lex.specs.declared.token.Kind.TheVariants as K
 use Rattle.rust_lex.specs.declared.token.Form.TheVariants.{Lifetime, Number}
 use Rattle.rust_lex.specs.Characters.{begins}
-use Rattle.rust_lex.specs.Comments.{begins_comment}
-use Rattle.rust_lex.specs.Identifiers.{starts_identifier, are_identifier, is_identifier, is_named, name_of, lifetime_kind}
-use Rattle.rust_lex.specs.Lexing.{kind_of}
+use Rattle.rust_lex.specs.Identifiers.{starts_identifier, are_identifier, is_identifier, is_named, name_of}
 use Rattle.rust_lex.specs.Numbers.{are_digits, is_small}
 use Rattle.source_grammar.specs.declared.class.Class.TheVariants as C
 use Rattle.source_grammar.specs.Spelled.{class_named}
-use Rattle.rust_printer.specs.Tok.{lifetime, placed, content_of, is_place}
-use Rattle.print_lexed.proofs.Blanks.{none, and_first, and_second, low}
+use Rattle.rust_printer.specs.Tok.{lifetime, placed, content_of}
+use Rattle.print_lexed.proofs.Blanks.{and_first, and_second, low}
 use Rattle.print_lexed.proofs.LexedNames.{IsNormal, of_form, of_form_at, own_name, named_by, utf8_of, and_none}
 use Rattle.print_lexed.proofs.NormalNames.{quoted_name}
 use Rattle.print_lexed.proofs.Sequences.{IsLexed}

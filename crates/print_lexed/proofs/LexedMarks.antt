@@ -22,7 +22,7 @@ use Rattle.source_grammar.specs.contracts.class.Class as cls
 use Rattle.source_grammar.specs.Classes as G
 use Rattle.source_grammar.specs.Spelled.{class_named, class_marked}
 use Rattle.source_syntax.specs.Spelled as S
-use Rattle.rust_printer.specs.Tok.{mark, spelling, after}
+use Rattle.rust_printer.specs.Tok.{mark, after}
 use Rattle.print_lexed.proofs.Blanks.{none, and_first, and_second}
 use Rattle.print_lexed.proofs.LexedNames.{of_form, ascii_normal, own_name, kind_is, utf8_of, some_byte, no_quote, no_slash, first_byte, starts_low}
 use Rattle.print_lexed.proofs.Sequences.{IsLexed}

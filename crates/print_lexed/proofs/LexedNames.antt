@@ -1,31 +1,29 @@
 -- Identifiers, words and marks are lexed as themselves before a blank.
-use Rattle.std.proofs.Common.{◌≡◌, refl, ap, sym, subst, ◌∙◌, ℕ, zero, suc, ◌≤◌, ◌<◌, Bool, true, false, List, [], ◌∷◌, ◌++◌, length, get_or, Some, None, IsUtf8, chars, encode_utf8_all, codes, arith}
-use Rattle.std.specs.Prelude.{◌&&◌, ◌||◌, ◌==◌, not, nat_lt, bytes_eq, if◌then◌else◌}
+use Rattle.std.proofs.Common.{◌≡◌, refl, ap, sym, subst, ◌∙◌, ℕ, zero, suc, ◌<◌, Bool, true, false, List, [], ◌∷◌, ◌++◌, length, get_or, Some, None, IsUtf8, chars, encode_utf8_all, codes, arith}
+use Rattle.std.specs.Prelude.{◌&&◌, ◌||◌, ◌==◌, not, bytes_eq, if◌then◌else◌}
 use Rattle.std.specs.List.{list_all}
 use Rattle.std.specs.Char.{is_ascii_alphabetic, is_ascii_alphanumeric, is_ascii_digit}
 use Rattle.std.specs.Str.{is_utf8, IsAscii}
 use Rattle.std.proofs.lemmas.Bool.{eqb-true}
 use Rattle.std.proofs.lemmas.Bool.Decides.{nat_tests}
-use Rattle.std.proofs.lemmas.Str.{chars-nil, chars-IsAscii, encodes-IsAscii, encodes-chars, IsUtf8-from_ascii, IsUtf8-from_is_utf8, is_utf8-from_IsUtf8}
+use Rattle.std.proofs.lemmas.Str.{chars-nil, chars-IsAscii, encodes-chars, IsUtf8-from_ascii, IsUtf8-from_is_utf8, is_utf8-from_IsUtf8}
 use Rattle.std.proofs.lemmas.Str.Ascii.{All-from_ascii}
-use Rattle.unicode_ident.specs.Ident.{is_xid_start, is_xid_continue}
+use Rattle.unicode_ident.specs.Ident.{is_xid_continue}
 use Rattle.unicode_ident.proofs.IdentLemmas.{is_xid_start-ascii, is_xid_continue-ascii}
 use Rattle.unicode_normalization.specs.Forms.{Nfc, nfc}
 use Rattle.unicode_normalization.proofs.FormsLemmas.{normalize-ascii}
 use Rattle.rust_lex.specs.declared.token.Kind.{Kind}
 use Rattle.rust_lex.specs.declared.token.Kind.TheVariants as K
 use Rattle.rust_lex.specs.declared.token.Form.{Form}
-use Rattle.rust_lex.specs.declared.token.Form.TheVariants.{Identifier, Mark}
+use Rattle.rust_lex.specs.declared.token.Form.TheVariants.{Identifier}
 use Rattle.rust_lex.specs.Characters.{begins}
 use Rattle.rust_lex.specs.Comments.{begins_comment}
 use Rattle.rust_lex.specs.Identifiers.{starts_identifier, are_identifier, is_identifier, is_named, name_of, word_kind}
 use Rattle.rust_lex.specs.Lexing.{IsToken, is_form, kind_of}
-use Rattle.rust_lex.specs.Punctuation.{is_mark}
-use Rattle.source_grammar.specs.declared.class.Class.{Class}
 use Rattle.source_grammar.specs.declared.class.Class.TheVariants as C
-use Rattle.source_grammar.specs.Spelled.{class_named, class_marked}
+use Rattle.source_grammar.specs.Spelled.{class_named}
 use Rattle.source_syntax.specs.Spelled as S
-use Rattle.rust_printer.specs.Tok.{Tok, mark, named, placed, spelling, after, class_of, content_of, is_place}
+use Rattle.rust_printer.specs.Tok.{Tok, named, placed, spelling, after, class_of, content_of, is_place}
 use Rattle.print_lexed.proofs.Blanks.{none, and_first, and_second, chars_low}
 use Rattle.print_lexed.proofs.BlankTokens.{before_blank}
 use Rattle.print_lexed.proofs.Sequences.{IsLexed}

@@ -1,7 +1,7 @@
 -- Integers, the words of integer types, and the places of fields are lexed as themselves.
-use Rattle.std.proofs.Common.{◌≡◌, ◌⊎◌, refl, ap, sym, subst, ◌∙◌, inl, inr, ℕ, zero, suc, ◌+◌, ◌-◌, ◌*◌, ◌/◌, ◌%◌, ◌^◌, ◌≤◌, ◌<◌, Bool, true, false, List, [], ◌∷◌, ◌++◌, length, length-append, append-nil, get_or, take, drop, Option, Some, None, codes, arith}
+use Rattle.std.proofs.Common.{◌≡◌, refl, ap, sym, ◌∙◌, ℕ, zero, suc, ◌+◌, ◌*◌, ◌/◌, ◌%◌, ◌^◌, ◌≤◌, ◌<◌, Bool, true, false, List, [], ◌∷◌, ◌++◌, length, length-append, get_or, drop, Option, Some, None, arith}
 use Rattle.std.specs.Prelude.{◌==◌, ◌||◌, ◌&&◌, nat_lt, if◌then◌else◌}
-use Rattle.std.specs.List.{list_all, list_any}
+use Rattle.std.specs.List.{list_all}
 use Rattle.std.specs.Char.{is_ascii_digit, is_ascii_alphabetic, is_ascii_alphanumeric, digit_value}
 use Rattle.std.specs.Fmt.{decimal}
 use Rattle.std.proofs.lemmas.Fmt.{decimal_by_steps_wide}
@@ -15,13 +15,13 @@ use Rattle.rust_lex.specs.declared.token.Base.TheVariants as B
 use Rattle.rust_lex.specs.Characters.{begins, begins_two, front, back}
 use Rattle.rust_lex.specs.Words.{is_word, int_named}
 use Rattle.rust_lex.specs.Identifiers.{word_kind}
-use Rattle.rust_lex.specs.Numbers.{is_number, base_of, prefix_length, is_digit_of, radix, goes_on, is_suffix, value_in, number_value, integer_of, digits_of, suffix_of, is_small}
+use Rattle.rust_lex.specs.Numbers.{is_number, base_of, prefix_length, is_digit_of, radix, goes_on, is_suffix, value_in, number_value, integer_of, suffix_of, is_small}
 use Rattle.source_grammar.specs.declared.class.Class.TheVariants as C
 use Rattle.source_grammar.specs.Spelled.{class_named}
 use Rattle.source_syntax.specs.Spelled as S
 use Rattle.rust_printer.specs.ShownWords.{int_word}
-use Rattle.rust_printer.specs.Tok.{int, number, spelling, suffix_of as ending}
-use Rattle.print_lexed.proofs.Blanks.{none, and_first, and_second}
+use Rattle.rust_printer.specs.Tok.{int, number, suffix_of as ending}
+use Rattle.print_lexed.proofs.Blanks.{and_first, and_second}
 use Rattle.print_lexed.proofs.LexedNames.{of_form, ascii_normal, own_name, kind_is, utf8_of, some_byte, no_quote, no_slash}
 use Rattle.print_lexed.proofs.Sequences.{IsLexed}
 

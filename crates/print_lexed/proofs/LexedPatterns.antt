@@ -1,5 +1,5 @@
 -- The tokens of patterns are lexed as themselves.
-use Rattle.std.proofs.Common.{◌≡◌, refl, false, List}
+use Rattle.std.proofs.Common.{refl, false, List}
 use Rattle.rust_ast.specs.SourcePatterns as p
 use Rattle.source_grammar.specs.declared.class.Class.TheVariants as C
 use Rattle.rust_printer.specs.Tok.{Tok}

@@ -9,7 +9,6 @@ use Rattle.rust_ast.specs.SourceTypes as t
 use Rattle.source_grammar.specs.declared.class.Class.{Class}
 use Rattle.source_grammar.specs.declared.class.Class.TheVariants as C
 use Rattle.rust_lex.specs.Words.{is_word, is_excluded}
-use Rattle.rust_lex.specs.declared.token.Kind.TheVariants as K
 use Rattle.rust_printer.specs.Tok.{Tok, mark, named, after}
 use Rattle.rust_printer.specs.WordTokens.{bin_tokens, update_tokens, cmp_tokens, truth_tokens, mut_tokens, sign_tokens, number_tokens}
 use Rattle.rust_printer.specs.TypeTokens.{lifetime_tokens, type_tokens, arguments_tokens, types_tokens, turbo_tokens, std_tokens, path_tokens}

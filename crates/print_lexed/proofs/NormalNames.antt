@@ -1,6 +1,6 @@
 -- The normal form of an identifier and of a lifetime.
-use Rattle.std.proofs.Common.{◌≡◌, refl, ap, sym, subst, ◌∙◌, ℕ, zero, suc, ◌≤◌, ◌<◌, Bool, true, false, List, [], ◌∷◌, ◌++◌, append-nil, append_assoc, Option, Some, None, IsUtf8, chars, encode_utf8_all, arith}
-use Rattle.std.specs.Prelude.{◌&&◌, ◌||◌, ◌==◌, not, nat_le}
+use Rattle.std.proofs.Common.{◌≡◌, refl, ap, sym, subst, ◌∙◌, ℕ, ◌≤◌, true, false, List, [], ◌∷◌, ◌++◌, append-nil, append_assoc, Some, None, IsUtf8, chars, encode_utf8_all, arith}
+use Rattle.std.specs.Prelude.{◌&&◌, ◌||◌, not, nat_le}
 use Rattle.std.specs.List.{list_all}
 use Rattle.std.specs.Str.{is_utf8}
 use Rattle.std.proofs.Math.Utf8.{scalar, scalars}
@@ -10,21 +10,21 @@ use Rattle.ucd_table.specs.Rows.{Range, in_ranges}
 use Rattle.ucd_table.proofs.Stepped.{Stepped, of_ranges, zip_stepped}
 use Rattle.ucd_table.proofs.Facts.{Stepped-everywhere}
 use Rattle.ucd_derived.proofs.BinaryLemmas.{is_xid_continue_stepped}
-use Rattle.ucd_normal.specs.Composition.{composite, paired_with}
+use Rattle.ucd_normal.specs.Composition.{paired_with}
 use Rattle.ucd_normal.specs.Compositions.{compositions, compositions_rows}
 use Rattle.ucd_normal.proofs.CompositionLemmas.{composite-paired_with}
 use Rattle.ucd_table.specs.Rows.{value_in}
 use Rattle.unicode_ident.specs.Ident.{is_xid_continue}
 use Rattle.unicode_ident.proofs.Computing.{unicode_ident}
-use Rattle.unicode_normalization.specs.Compose.{primary_composite, compose, compose_after, joined, or_else}
+use Rattle.unicode_normalization.specs.Compose.{primary_composite, compose, compose_after, or_else}
 use Rattle.unicode_normalization.specs.Hangul.{compose_hangul}
-use Rattle.unicode_normalization.specs.Forms.{Nfc, Nfd, nfc, nfd, decomposed}
+use Rattle.unicode_normalization.specs.Forms.{Nfd, nfc, nfd}
 use Rattle.ucd_normal.specs.CanonicalCombiningClass.{canonical_combining_class as ccc}
 use Rattle.unicode_normalization.proofs.ComposeLemmas.{compose_after-cases, compose_after-nil, compose-nil, compose-starter, compose-mark}
 use Rattle.unicode_normalization.proofs.FormsLemmas.{nfc_idem, nfc-by_nfd, normalize-Nfd, decomposed-passing, is_final-Nfd, quick_check-ascii, class-latin}
 use Rattle.rust_lex.specs.Characters.{begins}
 use Rattle.rust_lex.specs.Identifiers.{starts_identifier, are_identifier, is_identifier, is_named, name_of}
-use Rattle.print_lexed.proofs.Blanks.{none, and_first, and_second, chars_low}
+use Rattle.print_lexed.proofs.Blanks.{and_first, and_second, chars_low}
 use Rattle.print_lexed.proofs.LexedNames.{IsNormal, and_both}
 
 -- ---- characters of identifiers are scalar values

@@ -1,5 +1,5 @@
 -- The text of a program that was read is read as the same program.
-use Rattle.std.proofs.Common.{ℕ, List, [], None}
+use Rattle.std.proofs.Common.{ℕ, List, None}
 use Rattle.rust_ast.specs.declared.program.Program.{Program}
 use Rattle.source_grammar.specs.declared.lexeme.Lexeme.{Lexeme}
 use Rattle.source_syntax.specs.Spelled.{lexemes}

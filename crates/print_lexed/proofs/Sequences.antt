@@ -1,12 +1,11 @@
 -- Tokens that are lexed as themselves, one after another: their text is lexed as all of them.
-use Rattle.std.proofs.Common.{◌≡◌, ◌⊎◌, refl, ap, sym, subst, ◌∙◌, inl, inr, ℕ, zero, suc, ◌+◌, ◌-◌, ◌≤◌, ◌<◌, Bool, true, false, List, [], ◌∷◌, ◌++◌, length, length-append, append_assoc, take, drop, slice_range, Option, Some, None, codes, arith}
+use Rattle.std.proofs.Common.{◌≡◌, ◌⊎◌, refl, ap, sym, subst, ◌∙◌, inl, inr, ℕ, ◌+◌, ◌-◌, ◌≤◌, ◌<◌, Bool, true, false, List, [], ◌∷◌, ◌++◌, length, length-append, append_assoc, take, drop, slice_range, Option, None, codes, arith}
 use Rattle.std.specs.Prelude.{◌==◌}
 use Rattle.std.proofs.Math.Seq.{take-append_seam}
 use Rattle.std.proofs.lemmas.Bool.Decides.{nat_tests}
-use Rattle.aen_base.specs.declared.span.Span.{Span}
 use Rattle.rust_lex.specs.declared.token.Kind.{Kind}
 use Rattle.rust_lex.specs.declared.token.Token.{Token}
-use Rattle.rust_lex.specs.Comments.{Gap, white}
+use Rattle.rust_lex.specs.Comments.{white}
 use Rattle.rust_lex.specs.Lexing.{IsToken, Lexes, ends, gap, next, token, is_dot}
 use Rattle.source_grammar.specs.declared.class.Class.{Class}
 use Rattle.source_grammar.specs.declared.class.Class.TheVariants as C

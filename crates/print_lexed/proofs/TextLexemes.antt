@@ -1,9 +1,8 @@
 -- The lexemes of a text say what is lexed as itself: by going along its tokens.
-use Rattle.std.proofs.Common.{◌≡◌, ◌⊎◌, refl, ap, sym, subst, ◌∙◌, inl, inr, ℕ, zero, suc, ◌+◌, ◌-◌, ◌≤◌, ◌<◌, Bool, true, false, not, List, [], ◌∷◌, length, length-drop, take, drop, slice_range, Option, Some, None, arith}
-use Rattle.std.specs.Prelude.{◌&&◌, ◌==◌}
+use Rattle.std.proofs.Common.{◌≡◌, ◌⊎◌, refl, ap, sym, subst, ◌∙◌, inl, inr, ℕ, zero, suc, ◌+◌, ◌-◌, ◌≤◌, ◌<◌, Bool, true, false, List, [], ◌∷◌, length, length-drop, take, drop, slice_range, Option, Some, None, arith}
+use Rattle.std.specs.Prelude.{◌==◌}
 use Rattle.std.proofs.lemmas.Bool.{eqb-true}
 use Rattle.std.proofs.lemmas.List.{drop-drop}
-use Rattle.std.proofs.lemmas.Bool.Decides.{nat_tests}
 use Rattle.aen_base.specs.declared.span.Span.{Span}
 use Rattle.rust_lex.specs.declared.token.Kind.{Kind}
 use Rattle.rust_lex.specs.declared.token.Token.{Token}
@@ -15,7 +14,7 @@ use Rattle.source_grammar.specs.declared.class.Class.TheVariants as C
 use Rattle.source_syntax.specs.Spelled as S
 use Rattle.rust_printer.specs.ReadFrom.{AreLexemes}
 use Rattle.print_lexed.proofs.Blanks.{none, and_first, and_second}
-use Rattle.print_lexed.proofs.Proper.{IsProper, AreProper}
+use Rattle.print_lexed.proofs.Proper.{AreProper}
 use Rattle.print_lexed.proofs.Sequences.{dot_cases, differs}
 use Rattle.print_lexed.proofs.TextTokens.{Says, token_says}
 
@@ -91,9 +90,10 @@ all_said (next {at} {n} {after_dot} {text} {ts} {bad} {kind} x r) source e d f =
     let b = S.ends_at d at in
     let l = S.lexeme source d (token kind at n) in
     let said : Says (take n text) l.class l.content = subst (λ w. Says (take n text) (S.class_of kind (S.ends_at d at) w) (S.content_of kind (S.ends_at d at) w)) (sym (slice_is n at source text e)) (says_of x (S.ends_at d at) f.ends_here) in
-    let rest = all_said r source (ap (λ x. drop n x) e ∙ drop-drop n at source) (S.dot_after l) (after_token l.class (at + n) (is_dot (take n text)) said.dot) in
-    ((record { name = λ h. (said.name h).0; life = said.life; digits = λ h. (said.digits h).0; size = said.size }, rest.0),
-      ((λ h. (said.name h).1, λ h. (said.digits h).1), rest.1))
+    let rest = all_said r source (ap (λ x. drop n x) e ∙ drop-drop n at source) (S.dot_after l) (after_token l.class (at + n) (is_dot (take n text)) said.dot) in (
+      (record { name = λ h. (said.name h).0; life = said.life; digits = λ h. (said.digits h).0; size = said.size }, rest.0),
+      ((λ h. (said.name h).1, λ h. (said.digits h).1), rest.1),
+    )
 
 pub all_proper : (source : List ℕ) (ts : List Token) → AreTokens source ts None → AreProper (S.lexemes source None ts) × AreLexemes (S.lexemes source None ts)
 all_proper source ts r = all_said r source refl None (record { ends_here = λ e. absurd cc; before = λ end e. absurd cc })

@@ -2,7 +2,6 @@
 use Rattle.std.proofs.Common.{◌≡◌, refl, ap, sym, subst, ◌∙◌, ℕ, ◌<◌, ◌^◌, Bool, true, false, List, [], ◌∷◌, Option, Some, None, codes, arith}
 use Rattle.std.specs.Prelude.{◌&&◌, ◌||◌, ◌==◌, not, nat_lt, bytes_eq, if◌then◌else◌}
 use Rattle.std.specs.List.{list_all}
-use Rattle.std.specs.Char.{is_ascii_digit}
 use Rattle.std.proofs.lemmas.Bool.{eqb-true}
 use Rattle.std.proofs.lemmas.Bool.Decides.{nat_tests}
 use Rattle.aen_base.specs.declared.int_ty.IntTy.{IntTy}
@@ -10,7 +9,7 @@ use Rattle.rust_lex.specs.declared.token.Kind.{Kind}
 use Rattle.rust_lex.specs.declared.token.Kind.TheVariants as K
 use Rattle.rust_lex.specs.declared.token.Form.{Form}
 use Rattle.rust_lex.specs.declared.token.Form.TheVariants.{Identifier, Lifetime, Number, Quoted, Mark}
-use Rattle.rust_lex.specs.Identifiers.{is_identifier, is_named, name_of, word_kind, lifetime_kind}
+use Rattle.rust_lex.specs.Identifiers.{is_identifier, is_named, name_of, word_kind}
 use Rattle.rust_lex.specs.Lexing.{is_form, kind_of, is_dot}
 use Rattle.rust_lex.specs.Numbers.{are_digits, is_number, is_small, integer_of, number_value, suffix_of}
 use Rattle.rust_lex.specs.Words.{is_word, is_excluded, int_named}
@@ -25,9 +24,9 @@ use Rattle.source_grammar.specs.Spelled.{class_among, class_named, class_marked}
 use Rattle.source_syntax.specs.Spelled as S
 use Rattle.source_ways.specs.Says.{name_in, number_in}
 use Rattle.rust_printer.specs.Tok.{is_place}
-use Rattle.print_lexed.proofs.Blanks.{none, and_first, and_second}
+use Rattle.print_lexed.proofs.Blanks.{and_first, and_second}
 use Rattle.print_lexed.proofs.LexedLifetimes.{life_lexed, digits_lexed}
-use Rattle.print_lexed.proofs.LexedNames.{IsNormal, name_lexed, place_lexed}
+use Rattle.print_lexed.proofs.LexedNames.{name_lexed, place_lexed}
 use Rattle.print_lexed.proofs.NormalNames.{name_normal, quoted_name}
 use Rattle.print_lexed.proofs.Proper.{no_true}
 use Rattle.print_lexed.proofs.Spellable.{IsName, IsPlace, IsLife, IsSize}
