@@ -23,9 +23,3 @@ mod Keeps
 mod KeptTrees
 mod KeptParts
 mod KeptReading
-mod Blanks
-mod BlankTokens
-mod Sequences
-mod LexedNames
-mod LexedMarks
-mod LexedNumbers

@@ -22,10 +22,10 @@ use Rattle.source_grammar.specs.contracts.class.Class as cls
 use Rattle.source_grammar.specs.Classes as G
 use Rattle.source_grammar.specs.Spelled.{class_named, class_marked}
 use Rattle.source_syntax.specs.Spelled as S
-use Rattle.rust_printer.specs.Tok.{mark, spelling, after}
-use Rattle.rust_printer.proofs.Blanks.{none, and_first, and_second}
-use Rattle.rust_printer.proofs.LexedNames.{of_form, ascii_normal, own_name, kind_is, utf8_of, some_byte, no_quote, no_slash, first_byte, starts_low}
-use Rattle.rust_printer.proofs.Sequences.{IsLexed}
+use Rattle.rust_printer.specs.Tok.{mark, after}
+use Rattle.print_lexed.proofs.Blanks.{none, and_first, and_second}
+use Rattle.print_lexed.proofs.LexedNames.{of_form, ascii_normal, own_name, kind_is, utf8_of, some_byte, no_quote, no_slash, first_byte, starts_low}
+use Rattle.print_lexed.proofs.Sequences.{IsLexed}
 
 abbrev is_low : ℕ → Bool
 is_low c = nat_lt c 128

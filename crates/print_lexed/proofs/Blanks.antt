@@ -1,5 +1,5 @@
 -- No token's form but a string's has a blank in it.
-use Rattle.std.proofs.Common.{◌≡◌, refl, ap, sym, ◌∙◌, ℕ, zero, suc, ◌<◌, Bool, true, false, List, [], ◌∷◌, ◌++◌, drop, Option, Some, None, IsUtf8, chars, arith}
+use Rattle.std.proofs.Common.{◌≡◌, refl, ap, sym, ◌∙◌, ℕ, zero, suc, ◌<◌, Bool, true, false, List, [], ◌∷◌, ◌++◌, drop, Some, IsUtf8, chars, arith}
 use Rattle.std.specs.Prelude.{◌&&◌, ◌||◌, ◌==◌, not, bytes_eq, if◌then◌else◌}
 use Rattle.std.specs.List.{list_all, list_any}
 use Rattle.std.specs.Option.{is_some}
@@ -15,7 +15,7 @@ use Rattle.aen_base.specs.declared.int_ty.IntTy.TheVariants as ints
 use Rattle.rust_lex.specs.declared.token.Base.{Base}
 use Rattle.rust_lex.specs.declared.token.Base.TheVariants as B
 use Rattle.rust_lex.specs.Characters.{begins, begins_two, back}
-use Rattle.rust_lex.specs.Words.{int_word, int_among, int_named, int_types}
+use Rattle.rust_lex.specs.Words.{int_word, int_among, int_types}
 use Rattle.rust_lex.specs.Identifiers.{are_identifier, is_identifier, starts_identifier}
 use Rattle.rust_lex.specs.Numbers.{is_number, are_digits, is_suffix, base_of, prefix_length, after_prefix, suffix_of, goes_on, is_digit_of}
 use Rattle.rust_lex.specs.Punctuation.{is_single, is_double, is_triple, is_mark, single_marks, double_marks, triple_marks}

@@ -1,21 +1,17 @@
 -- A slice of a token's form that stands before a blank is a token.
-use Rattle.std.proofs.Common.{◌≡◌, ◌⊎◌, refl, ap, sym, subst, ◌∙◌, inl, inr, ℕ, zero, suc, ◌+◌, ◌≤◌, ◌<◌, Bool, true, false, List, [], ◌∷◌, ◌++◌, length, length-append, take, drop, Some, IsUtf8, arith}
+use Rattle.std.proofs.Common.{◌≡◌, ◌⊎◌, refl, ap, sym, ◌∙◌, inl, inr, ℕ, zero, suc, ◌≤◌, Bool, true, false, List, [], ◌∷◌, ◌++◌, length, length-append, take, Some, IsUtf8, arith}
 use Rattle.std.specs.Prelude.{◌&&◌, ◌||◌, ◌==◌, bytes_eq}
-use Rattle.std.specs.List.{list_all}
-use Rattle.std.specs.Char.{is_ascii_digit}
 use Rattle.std.proofs.Math.Seq.{take-append_seam}
 use Rattle.std.proofs.lemmas.Bool.{eqb-true}
 use Rattle.std.proofs.lemmas.Str.{IsUtf8-drop, IsCharBoundary-after_ascii}
 use Rattle.rust_lex.specs.declared.token.Kind.{Kind}
 use Rattle.rust_lex.specs.declared.token.Form.{Form}
 use Rattle.rust_lex.specs.declared.token.Form.TheVariants.{Identifier, Lifetime, Number, Quoted, Mark}
-use Rattle.rust_lex.specs.Characters.{begins, begins_two}
+use Rattle.rust_lex.specs.Characters.{begins}
 use Rattle.rust_lex.specs.Comments.{begins_comment}
 use Rattle.rust_lex.specs.Identifiers.{is_identifier, is_lifetime}
-use Rattle.rust_lex.specs.Numbers.{is_number, are_digits}
-use Rattle.rust_lex.specs.Punctuation.{is_mark}
-use Rattle.rust_lex.specs.Lexing.{IsToken, IsLongest, is_form, kind_of, is_string, closes_string}
-use Rattle.rust_printer.proofs.Blanks.{has_blank, none, and_first, and_second, blank_between, mark_pure, digits_pure, number_pure, identifier_pure}
+use Rattle.rust_lex.specs.Lexing.{IsToken, is_form, kind_of, is_string, closes_string}
+use Rattle.print_lexed.proofs.Blanks.{has_blank, none, and_first, and_second, blank_between, mark_pure, digits_pure, number_pure, identifier_pure}
 
 -- what is longer goes on over the blank
 longer : (w rest : List ℕ) (m : ℕ) → (m ≤ length w) ⊎ ((v : List ℕ) × (take m (w ++ (32 ∷ rest)) ≡ w ++ (32 ∷ v)))

@@ -1,12 +1,11 @@
 -- Tokens that are lexed as themselves, one after another: their text is lexed as all of them.
-use Rattle.std.proofs.Common.{◌≡◌, ◌⊎◌, refl, ap, sym, subst, ◌∙◌, inl, inr, ℕ, zero, suc, ◌+◌, ◌-◌, ◌≤◌, ◌<◌, Bool, true, false, List, [], ◌∷◌, ◌++◌, length, length-append, append_assoc, take, drop, slice_range, Option, Some, None, codes, arith}
+use Rattle.std.proofs.Common.{◌≡◌, ◌⊎◌, refl, ap, sym, subst, ◌∙◌, inl, inr, ℕ, ◌+◌, ◌-◌, ◌≤◌, ◌<◌, Bool, true, false, List, [], ◌∷◌, ◌++◌, length, length-append, append_assoc, take, drop, slice_range, Option, None, codes, arith}
 use Rattle.std.specs.Prelude.{◌==◌}
 use Rattle.std.proofs.Math.Seq.{take-append_seam}
 use Rattle.std.proofs.lemmas.Bool.Decides.{nat_tests}
-use Rattle.aen_base.specs.declared.span.Span.{Span}
 use Rattle.rust_lex.specs.declared.token.Kind.{Kind}
 use Rattle.rust_lex.specs.declared.token.Token.{Token}
-use Rattle.rust_lex.specs.Comments.{Gap, white}
+use Rattle.rust_lex.specs.Comments.{white}
 use Rattle.rust_lex.specs.Lexing.{IsToken, Lexes, ends, gap, next, token, is_dot}
 use Rattle.source_grammar.specs.declared.class.Class.{Class}
 use Rattle.source_grammar.specs.declared.class.Class.TheVariants as C
@@ -46,8 +45,8 @@ pub record IsText (text : List ℕ) (at : ℕ) (dot : Bool) (d : Option ℕ) (to
   pub lexes : Lexes at dot (spelled toks) tokens None
   pub laid : Laid at toks (S.lexemes text d tokens)
 
--- a lexeme that ends earlier ends directly before nothing
-dot_cases : (c : Class) (end : ℕ) → (S.dot_end c end ≡ None) ⊎ (S.dot_end c end ≡ Some end)
+-- whether a lexeme is a dot
+pub dot_cases : (c : Class) (end : ℕ) → (S.dot_end c end ≡ None) ⊎ (c ≡ C.Dot)
 dot_cases C.IntWord end = inl refl
 dot_cases C.Other end = inl refl
 dot_cases C.Lifetime end = inl refl
@@ -132,17 +131,18 @@ dot_cases C.Dot end = inr refl
 dot_cases C.Hash end = inl refl
 dot_cases C.Wild end = inl refl
 
-differs : (m n : ℕ) → m < n → (m == n) ≡ false
+pub differs : (m n : ℕ) → m < n → (m == n) ≡ false
 differs m n h = grind (arith, nat_tests)
 
 equals : (m n : ℕ) → m ≡ n → (m == n) ≡ true
 equals m n h = grind (arith, nat_tests)
 
+-- a lexeme that ends earlier ends directly before nothing
 dot_over : (c : Class) (end at : ℕ) → end < at → S.ends_at (S.dot_end c end) at ≡ false
 dot_over c end at h = by_case (dot_cases c end) where
-  by_case : (S.dot_end c end ≡ None) ⊎ (S.dot_end c end ≡ Some end) → S.ends_at (S.dot_end c end) at ≡ false
+  by_case : (S.dot_end c end ≡ None) ⊎ (c ≡ C.Dot) → S.ends_at (S.dot_end c end) at ≡ false
   by_case (inl e) = ap (λ d. S.ends_at d at) e
-  by_case (inr e) = ap (λ d. S.ends_at d at) e ∙ differs end at h
+  by_case (inr e) = ap (λ (d : Class). S.ends_at (S.dot_end d end) at) e ∙ differs end at h
 
 earlier : {at from : ℕ} {ts : List Tok} {ls : List Lexeme} → from ≤ at → Laid at ts ls → Laid from ts ls
 earlier h L.nothing = L.nothing
@@ -171,13 +171,13 @@ over_blank text pre dot d t ts x blank whole after_dot f =
     let mid = pre ++ (spelling t ++ codes " ") in
     let count : length (pre ++ (spelling t ++ codes " ")) ≡ (length pre + length (spelling t)) + 1 = let a = length-append pre (spelling t ++ codes " ") in let b = length-append (spelling t) (codes " ") in omega (arith, a, b) in
     let split : text ≡ (pre ++ (spelling t ++ codes " ")) ++ spelled ts =
-      whole ∙ ap (λ y. pre ++ (spelling t ++ (y ++ spelled ts))) blank ∙ ap (λ y. pre ++ y) (sym (append_assoc (spelling t) (codes " ") (spelled ts))) ∙ sym (append_assoc pre (spelling t ++ codes " ") (spelled ts)) in
+    whole ∙ ap (λ y. pre ++ (spelling t ++ (y ++ spelled ts))) blank ∙ ap (λ y. pre ++ y) (sym (append_assoc (spelling t) (codes " ") (spelled ts))) ∙ sym (append_assoc pre (spelling t ++ codes " ") (spelled ts)) in
     let y = f (pre ++ (spelling t ++ codes " ")) (S.dot_after l) split (dot_over l.class l.span.hi (length (pre ++ (spelling t ++ codes " "))) (omega (arith, count))) in
     let behind : drop (length (spelling t)) (spelling t ++ (after t ++ spelled ts)) ≡ 32 ∷ spelled ts = drop_front (spelling t) (after t ++ spelled ts) ∙ ap (λ a. a ++ spelled ts) blank in
     record {
       tokens = token x.kind (length pre) (length (spelling t)) ∷ y.tokens;
       lexes = next (x.is (spelled ts)) (subst (λ r. Lexes (length pre + length (spelling t)) (is_dot (take (length (spelling t)) (spelling t ++ (after t ++ spelled ts)))) r y.tokens None) (sym behind)
-        (gap (white refl) (subst (λ at. Lexes at false (spelled ts) y.tokens None) count y.lexes)));
+          (gap (white refl) (subst (λ at. Lexes at false (spelled ts) y.tokens None) count y.lexes)));
       laid = L.next (omega arith) (let some = x.some in omega (arith, some)) is.class is.content (earlier (omega (arith, count)) y.laid);
     }
 
@@ -190,7 +190,7 @@ over_dot text pre dot d ts x whole after_dot f =
     let count : length (pre ++ codes ".") ≡ length pre + 1 = length-append pre (codes ".") in
     let split : text ≡ (pre ++ codes ".") ++ spelled ts = whole ∙ sym (append_assoc pre (codes ".") (spelled ts)) in
     let ends : S.ends_at (S.dot_after l) (length (pre ++ codes ".")) ≡ true =
-      ap (λ c. S.ends_at (S.dot_end c l.span.hi) (length (pre ++ codes "."))) is.class ∙ equals (length pre + 1) (length (pre ++ codes ".")) (sym count) in
+    ap (λ c. S.ends_at (S.dot_end c l.span.hi) (length (pre ++ codes "."))) is.class ∙ equals (length pre + 1) (length (pre ++ codes ".")) (sym count) in
     let y = f (pre ++ codes ".") (S.dot_after l) split ends in
     record {
       tokens = token x.kind (length pre) 1 ∷ y.tokens;

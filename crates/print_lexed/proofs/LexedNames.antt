@@ -1,45 +1,47 @@
 -- Identifiers, words and marks are lexed as themselves before a blank.
-use Rattle.std.proofs.Common.{◌≡◌, refl, ap, sym, subst, ◌∙◌, ℕ, zero, suc, ◌≤◌, ◌<◌, Bool, true, false, List, [], ◌∷◌, ◌++◌, length, get_or, Some, None, IsUtf8, chars, encode_utf8_all, codes, arith}
-use Rattle.std.specs.Prelude.{◌&&◌, ◌||◌, ◌==◌, not, nat_lt, bytes_eq, if◌then◌else◌}
+use Rattle.std.proofs.Common.{◌≡◌, refl, ap, sym, subst, ◌∙◌, ℕ, zero, suc, ◌<◌, Bool, true, false, List, [], ◌∷◌, ◌++◌, length, get_or, Some, None, IsUtf8, chars, encode_utf8_all, codes, arith}
+use Rattle.std.specs.Prelude.{◌&&◌, ◌||◌, ◌==◌, not, bytes_eq, if◌then◌else◌}
 use Rattle.std.specs.List.{list_all}
-use Rattle.std.specs.Char.{is_ascii_alphabetic, is_ascii_alphanumeric}
+use Rattle.std.specs.Char.{is_ascii_alphabetic, is_ascii_alphanumeric, is_ascii_digit}
 use Rattle.std.specs.Str.{is_utf8, IsAscii}
 use Rattle.std.proofs.lemmas.Bool.{eqb-true}
 use Rattle.std.proofs.lemmas.Bool.Decides.{nat_tests}
-use Rattle.std.proofs.lemmas.Str.{chars-nil, chars-IsAscii, encodes-IsAscii, encodes-chars, IsUtf8-from_ascii, IsUtf8-from_is_utf8, is_utf8-from_IsUtf8}
+use Rattle.std.proofs.lemmas.Str.{chars-nil, chars-IsAscii, encodes-chars, IsUtf8-from_ascii, IsUtf8-from_is_utf8, is_utf8-from_IsUtf8}
 use Rattle.std.proofs.lemmas.Str.Ascii.{All-from_ascii}
-use Rattle.unicode_ident.specs.Ident.{is_xid_start, is_xid_continue}
+use Rattle.unicode_ident.specs.Ident.{is_xid_continue}
 use Rattle.unicode_ident.proofs.IdentLemmas.{is_xid_start-ascii, is_xid_continue-ascii}
 use Rattle.unicode_normalization.specs.Forms.{Nfc, nfc}
 use Rattle.unicode_normalization.proofs.FormsLemmas.{normalize-ascii}
 use Rattle.rust_lex.specs.declared.token.Kind.{Kind}
 use Rattle.rust_lex.specs.declared.token.Kind.TheVariants as K
 use Rattle.rust_lex.specs.declared.token.Form.{Form}
-use Rattle.rust_lex.specs.declared.token.Form.TheVariants.{Identifier, Mark}
+use Rattle.rust_lex.specs.declared.token.Form.TheVariants.{Identifier}
 use Rattle.rust_lex.specs.Characters.{begins}
 use Rattle.rust_lex.specs.Comments.{begins_comment}
 use Rattle.rust_lex.specs.Identifiers.{starts_identifier, are_identifier, is_identifier, is_named, name_of, word_kind}
 use Rattle.rust_lex.specs.Lexing.{IsToken, is_form, kind_of}
-use Rattle.rust_lex.specs.Punctuation.{is_mark}
-use Rattle.source_grammar.specs.declared.class.Class.{Class}
 use Rattle.source_grammar.specs.declared.class.Class.TheVariants as C
-use Rattle.source_grammar.specs.Spelled.{class_named, class_marked}
+use Rattle.source_grammar.specs.Spelled.{class_named}
 use Rattle.source_syntax.specs.Spelled as S
-use Rattle.rust_printer.specs.Tok.{Tok, mark, named, spelling, after, class_of, content_of}
-use Rattle.rust_printer.proofs.Blanks.{none, and_first, and_second, chars_low}
-use Rattle.rust_printer.proofs.BlankTokens.{before_blank}
-use Rattle.rust_printer.proofs.Sequences.{IsLexed}
+use Rattle.rust_printer.specs.Tok.{Tok, named, placed, spelling, after, class_of, content_of, is_place}
+use Rattle.print_lexed.proofs.Blanks.{none, and_first, and_second, chars_low}
+use Rattle.print_lexed.proofs.BlankTokens.{before_blank}
+use Rattle.print_lexed.proofs.Sequences.{IsLexed}
 
--- a token that a blank follows
-pub of_form : (t : Tok) (form : Form) (kind : Kind) → after t ≡ codes " " → 0 < length (spelling t) → IsUtf8 (spelling t) → begins (λ c. c == 34) (spelling t) ≡ false → begins_comment (spelling t) ≡ false →
-    is_form false form (spelling t) ≡ true → kind_of form (spelling t) ≡ Some kind → S.class_of kind false (spelling t) ≡ class_of t → S.content_of kind false (spelling t) ≡ content_of t → IsLexed false t
-of_form t form kind blank some u q k f is class content = record {
+-- a token that a blank follows, directly after a dot or not
+pub of_form_at : (dot : Bool) (t : Tok) (form : Form) (kind : Kind) → after t ≡ codes " " → 0 < length (spelling t) → IsUtf8 (spelling t) → begins (λ c. c == 34) (spelling t) ≡ false → begins_comment (spelling t) ≡ false →
+    is_form dot form (spelling t) ≡ true → kind_of form (spelling t) ≡ Some kind → S.class_of kind dot (spelling t) ≡ class_of t → S.content_of kind dot (spelling t) ≡ content_of t → IsLexed dot t
+of_form_at dot t form kind blank some u q k f is class content = record {
   kind = kind;
   some = some;
-  is = λ rest. subst (λ a. IsToken false (length (spelling t)) kind (spelling t ++ (a ++ rest))) (sym blank) (before_blank false form kind (spelling t) rest u q k f is);
+  is = λ rest. subst (λ a. IsToken dot (length (spelling t)) kind (spelling t ++ (a ++ rest))) (sym blank) (before_blank dot form kind (spelling t) rest u q k f is);
   class = class;
   content = content;
 }
+
+pub of_form : (t : Tok) (form : Form) (kind : Kind) → after t ≡ codes " " → 0 < length (spelling t) → IsUtf8 (spelling t) → begins (λ c. c == 34) (spelling t) ≡ false → begins_comment (spelling t) ≡ false →
+    is_form false form (spelling t) ≡ true → kind_of form (spelling t) ≡ Some kind → S.class_of kind false (spelling t) ≡ class_of t → S.content_of kind false (spelling t) ≡ content_of t → IsLexed false t
+of_form t form kind blank some u q k f is class content = of_form_at false t form kind blank some u q k f is class content
 
 -- ---- identifiers
 
@@ -68,7 +70,7 @@ no_quote (c ∷ w) h = by_test (c == 34) refl where
       none (starts_identifier 34) (sym (ap starts_identifier q) ∙ first_byte c w h (omega (arith, q))) (starts_low 34 (omega arith) refl refl)
   by_test false e = e
 
-and_none : (a b : Bool) → a ≡ false → a && b ≡ false
+pub and_none : (a b : Bool) → a ≡ false → a && b ≡ false
 and_none true b h = absurd cc
 and_none false b h = refl
 
@@ -93,7 +95,7 @@ unfolding is_identifier
 some_byte [] h = none (are_identifier (chars [])) (and_second (is_utf8 []) (are_identifier (chars [])) h) (ap are_identifier chars-nil)
 some_byte (c ∷ w) h = omega arith
 
-named_by : (w : List ℕ) → IsNormal w → is_named w ≡ true
+pub named_by : (w : List ℕ) → IsNormal w → is_named w ≡ true
 unfolding is_named is_identifier
 named_by w n = ap are_identifier n.normal ∙ and_second (is_utf8 w) (are_identifier (chars w)) n.identifier
 
@@ -111,6 +113,25 @@ pub name_lexed : (w : List ℕ) → IsNormal w → word_kind w ≡ K.Ident → I
 name_lexed w n h =
     of_form (named w) Identifier K.Ident refl (some_byte w n.identifier) (utf8_of w n.identifier) (no_quote w n.identifier) (no_slash w n.identifier) n.identifier (kind_is w K.Ident n h)
     (ap (λ x. class_named x C.Other) (own_name w n)) (ap (λ (x : List ℕ). content_of (named x)) (own_name w n))
+
+-- digits are no identifier
+no_digit : (c : ℕ) → is_ascii_digit c ≡ true → (is_ascii_alphabetic c ≡ false) × (c == 95 ≡ false)
+no_digit c h = (grind (arith, nat_tests), grind (arith, nat_tests))
+
+low_digit : (c : ℕ) → is_ascii_digit c ≡ true → c < 128
+low_digit c h = grind (arith, nat_tests)
+
+no_place : (w : List ℕ) → is_identifier w ≡ true → is_place w ≡ false
+no_place [] h = refl
+no_place (c ∷ w) h = and_none (is_ascii_digit c) (list_all is_ascii_digit w) (by_test (is_ascii_digit c) refl) where
+  by_test : (b : Bool) → is_ascii_digit c ≡ b → is_ascii_digit c ≡ false
+  by_test true e = none (starts_identifier c) (first_byte c w h (low_digit c e)) (starts_low c (low_digit c e) (no_digit c e).0 (no_digit c e).1)
+  by_test false e = e
+
+pub place_lexed : (w : List ℕ) → IsNormal w → word_kind w ≡ K.Ident → IsLexed true (placed w)
+place_lexed w n h =
+    of_form_at true (placed w) Identifier K.Ident refl (some_byte w n.identifier) (utf8_of w n.identifier) (no_quote w n.identifier) (no_slash w n.identifier) n.identifier (kind_is w K.Ident n h)
+    (ap (λ x. class_named x C.Other) (own_name w n) ∙ sym (ap (λ b. if b then C.Digits else class_named w C.Other) (no_place w n.identifier))) (ap (λ (x : List ℕ). content_of (placed x)) (own_name w n))
 
 -- ---- ASCII
 
@@ -130,7 +151,7 @@ goes_on (c ∷ w) h =
     let e : is_xid_continue c ≡ true = is_xid_continue-ascii c (low_byte c a) ∙ (λ i. a i || (c == 95)) in
     (λ i. e i && list_all is_xid_continue w) ∙ goes_on w (and_second (is_ascii_alphanumeric c) (list_all is_ascii_alphanumeric w) h)
 
-and_both : (a b : Bool) → a ≡ true → b ≡ true → a && b ≡ true
+pub and_both : (a b : Bool) → a ≡ true → b ≡ true → a && b ≡ true
 and_both a b p q = (λ i. p i && b) ∙ q
 
 not_lone : (c : ℕ) (w : List ℕ) → is_ascii_alphabetic c ≡ true → not (bytes_eq (c ∷ w) (95 ∷ [])) ≡ true

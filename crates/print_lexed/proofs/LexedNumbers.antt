@@ -1,7 +1,7 @@
 -- Integers, the words of integer types, and the places of fields are lexed as themselves.
-use Rattle.std.proofs.Common.{◌≡◌, ◌⊎◌, refl, ap, sym, subst, ◌∙◌, inl, inr, ℕ, zero, suc, ◌+◌, ◌-◌, ◌*◌, ◌/◌, ◌%◌, ◌^◌, ◌≤◌, ◌<◌, Bool, true, false, List, [], ◌∷◌, ◌++◌, length, length-append, append-nil, get_or, take, drop, Option, Some, None, codes, arith}
+use Rattle.std.proofs.Common.{◌≡◌, refl, ap, sym, ◌∙◌, ℕ, zero, suc, ◌+◌, ◌*◌, ◌/◌, ◌%◌, ◌^◌, ◌≤◌, ◌<◌, Bool, true, false, List, [], ◌∷◌, ◌++◌, length, length-append, get_or, drop, Option, Some, None, arith}
 use Rattle.std.specs.Prelude.{◌==◌, ◌||◌, ◌&&◌, nat_lt, if◌then◌else◌}
-use Rattle.std.specs.List.{list_all, list_any}
+use Rattle.std.specs.List.{list_all}
 use Rattle.std.specs.Char.{is_ascii_digit, is_ascii_alphabetic, is_ascii_alphanumeric, digit_value}
 use Rattle.std.specs.Fmt.{decimal}
 use Rattle.std.proofs.lemmas.Fmt.{decimal_by_steps_wide}
@@ -15,15 +15,15 @@ use Rattle.rust_lex.specs.declared.token.Base.TheVariants as B
 use Rattle.rust_lex.specs.Characters.{begins, begins_two, front, back}
 use Rattle.rust_lex.specs.Words.{is_word, int_named}
 use Rattle.rust_lex.specs.Identifiers.{word_kind}
-use Rattle.rust_lex.specs.Numbers.{is_number, base_of, prefix_length, is_digit_of, radix, goes_on, is_suffix, value_in, number_value, integer_of, digits_of, suffix_of, is_small}
+use Rattle.rust_lex.specs.Numbers.{is_number, base_of, prefix_length, is_digit_of, radix, goes_on, is_suffix, value_in, number_value, integer_of, suffix_of, is_small}
 use Rattle.source_grammar.specs.declared.class.Class.TheVariants as C
 use Rattle.source_grammar.specs.Spelled.{class_named}
 use Rattle.source_syntax.specs.Spelled as S
 use Rattle.rust_printer.specs.ShownWords.{int_word}
-use Rattle.rust_printer.specs.Tok.{int, number, spelling, suffix_of as ending}
-use Rattle.rust_printer.proofs.Blanks.{none, and_first, and_second}
-use Rattle.rust_printer.proofs.LexedNames.{of_form, ascii_normal, own_name, kind_is, utf8_of, some_byte, no_quote, no_slash}
-use Rattle.rust_printer.proofs.Sequences.{IsLexed}
+use Rattle.rust_printer.specs.Tok.{int, number, suffix_of as ending}
+use Rattle.print_lexed.proofs.Blanks.{and_first, and_second}
+use Rattle.print_lexed.proofs.LexedNames.{of_form, ascii_normal, own_name, kind_is, utf8_of, some_byte, no_quote, no_slash}
+use Rattle.print_lexed.proofs.Sequences.{IsLexed}
 
 -- ---- words of types
 
@@ -98,9 +98,10 @@ one_digit n h = ((omega arith, (λ i. digit_is n h i && true)), value_next 0 (48
 more_digits : (n : ℕ) (ds : List ℕ) → 10 ≤ n → Writes (n / 10) ds → Writes n (ds ++ ((48 + n % 10) ∷ []))
 more_digits n ds h w =
     let r : n % 10 < 10 = omega arith in
-    let l = length-append ds ((48 + n % 10) ∷ []) in
-    ((omega (arith, l), all_append is_ascii_digit ds ((48 + n % 10) ∷ []) w.0.1 (λ i. digit_is (n % 10) r i && true)),
-      value_append 0 ds ((48 + n % 10) ∷ []) w.0.1 ∙ value_next (value_in 10 0 ds) (48 + n % 10) [] (digit_is (n % 10) r) ∙ (let e = digit_says (n % 10) r in let v = w.1 in omega (arith, e, v)))
+    let l = length-append ds ((48 + n % 10) ∷ []) in (
+      (omega (arith, l), all_append is_ascii_digit ds ((48 + n % 10) ∷ []) w.0.1 (λ i. digit_is (n % 10) r i && true)),
+      value_append 0 ds ((48 + n % 10) ∷ []) w.0.1 ∙ value_next (value_in 10 0 ds) (48 + n % 10) [] (digit_is (n % 10) r) ∙ (let e = digit_says (n % 10) r in let v = w.1 in omega (arith, e, v)),
+    )
 
 pub decimal_writes : (n : ℕ) → n < 2 ^ 128 → Writes n (decimal n)
 decimal_writes n h = decimal_by_steps_wide Writes one_digit more_digits n (omega (arith, h))
@@ -216,7 +217,7 @@ pub number_is : (n : ℕ) (suffix : Option IntTy) (ds e : List ℕ) → n < 2 ^ 
 unfolding is_number number_value
 number_is n suffix ds e l w x =
     let base : base_of (ds ++ e) ≡ B.Decimal = base_by (begins_two 48 120 (ds ++ e)) (begins_two 48 111 (ds ++ e)) (begins_two 48 98 (ds ++ e))
-      (no_prefix 120 ds e (omega arith) w.0.0 w.0.1 x.no_x) (no_prefix 111 ds e (omega arith) w.0.0 w.0.1 x.no_o) (no_prefix 98 ds e (omega arith) w.0.0 w.0.1 x.no_b) in
+    (no_prefix 120 ds e (omega arith) w.0.0 w.0.1 x.no_x) (no_prefix 111 ds e (omega arith) w.0.0 w.0.1 x.no_o) (no_prefix 98 ds e (omega arith) w.0.0 w.0.1 x.no_b) in
     let suffixed : suffix_of (ds ++ e) ≡ e = ap (λ b. back (goes_on b) (drop (prefix_length b) (ds ++ e))) base ∙ digits_back ds e w.0.1 x.stops in
     let says : number_value (ds ++ e) ≡ n = ap (λ b. value_in (radix b) 0 (front (goes_on b) (drop (prefix_length b) (ds ++ e)))) base ∙ ap (λ y. value_in 10 0 y) (digits_front ds e w.0.1 x.stops) ∙ w.1 in
     record {
@@ -257,7 +258,7 @@ number_lexed n suffix l =
     let some = d.0.0 in
     let slash = no_first 47 (decimal n) (ending suffix) (omega arith) d.0.0 d.0.1 in
     let integer : integer_of (decimal n ++ ending suffix) ≡ Some (record { value = n; suffix = suffix }) =
-      some_if (is_number (decimal n ++ ending suffix) && is_small (decimal n ++ ending suffix)) (record { value = number_value (decimal n ++ ending suffix); suffix = int_named (suffix_of (decimal n ++ ending suffix)) }) (both_true _ _ f.is f.small)
-      ∙ (λ i. Some (record { value = f.value i; suffix = f.named i })) in
+    some_if (is_number (decimal n ++ ending suffix) && is_small (decimal n ++ ending suffix)) (record { value = number_value (decimal n ++ ending suffix); suffix = int_named (suffix_of (decimal n ++ ending suffix)) }) (both_true _ _ f.is f.small)
+    ∙ (λ i. Some (record { value = f.value i; suffix = f.named i })) in
     of_form (number n suffix) Number K.Integer refl (omega (arith, count, some)) (IsUtf8-from_ascii (decimal n ++ ending suffix) (low_at (decimal n ++ ending suffix) (all_append is_low (decimal n) (ending suffix) (low_digits (decimal n) d.0.1) e.low)))
     (no_first 34 (decimal n) (ending suffix) (omega arith) d.0.0 d.0.1) (or_no _ _ (two_no 47 47 (decimal n ++ ending suffix) slash) (two_no 47 42 (decimal n ++ ending suffix) slash)) f.is (some_if (is_small (decimal n ++ ending suffix)) K.Integer f.small) refl (ap S.number integer)
