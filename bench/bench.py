@@ -2,7 +2,8 @@
 """bench.py [PROGRAM]: time, peak memory and growth of the built program on inputs that double.
 
 PROGRAM is what `./aeneas build` builds where it isn't given. Sources for `translate` have many
-functions with lets, sums of ten terms and calls, or a single function with many lets. One source for `run` is a chain of 250 calls. Texts for `eval` have many definitions with types
+functions with lets, sums of ten terms and calls, or functions with many lets each; sources with all forms
+of the language are read, with their names, and refused as for later. One source for `run` is a chain of 250 calls. Texts for `eval` have many definitions with types
 and matches, or one definition with many binds, and are read whole before one of their definitions is
 evaluated. The last line is a loop of sums at a fuel of 1,000,000, by the program loop_bench where
 that is built.
@@ -51,6 +52,30 @@ def many_lets(size):
     while True:
         lets = [f"    let y{j} = x + {'y%d' % (j - 1) if j else 'x'};\n" for j in range(900)]
         text = f"fn lets{k}(x: u32) -> u32 {{\n{''.join(lets)}    y899 }}\n"
+        if length + len(text) > size:
+            return "".join(parts)
+        parts.append(text)
+        length += len(text)
+        k += 1
+
+
+def all_forms(size):
+    """Types and functions with all forms of the language, which is read, its names resolved, and refused as for later."""
+    parts, length, k = [], 0, 0
+    while True:
+        text = (
+            f"#[derive(Debug)]\nstruct Pair{k}<A, B> {{ pub first: A, second: (B, u8) }}\nstruct Unit{k};\nstruct Of{k}(i64, bool);\n"
+            f"enum Tree{k}<T> {{ Leaf, Node(Box<Tree{k}<T>>, T), Both(T, T) }}\n"
+            f"pub fn first{k}<'a, T>(pair: &'a mut Pair{k}<T, i32>, other: &T) -> &'a mut T {{ &mut pair.first }}\n"
+            f"fn sum{k}(tree: &Tree{k}<u32>, mut turns: u32) -> u32 {{\n"
+            "    let mut sum: u32 = 0; let (low, high): (u32, u32) = (1u32, 2);\n"
+            "    while turns > 0 && !(sum >= 1_000) { turns -= 1; if turns % 2 == 0 { continue; } sum += low * (high - turns) << 1; }\n"
+            f"    match *tree {{ Tree{k}::Leaf => {{}} Tree{k}::Node(ref_box, value) => sum = value, Tree{k}::Both(a, _) => {{ return a; }} }}\n"
+            "    let part = loop { if sum == 7 || turns > 3 { break sum as u8; } sum = sum ^ 0x1F | high & 3; };\n"
+            f"    let made = Pair{k} {{ first: -5i64, second: (true, part) }};\n"
+            f"    if let Pair{k} {{ first, second: (flag, 0) }} = made {{ assert!(flag, \"no flag\"); let of = Of{k}(first, false); of.0 as u32 }}\n"
+            "    else if low < high { let boxed = Box::new(sum); *boxed + std::mem::replace(&mut sum, 3) } else { unreachable!() }\n}\n"
+        )
         if length + len(text) > size:
             return "".join(parts)
         parts.append(text)
@@ -149,6 +174,7 @@ def main():
     print(f"{'input':24} {'bytes':>9} {'seconds':>8} {'growth':>7} {'peak MB':>8} {'a byte':>6} {'written':>9} status")
     for name, make in [("many functions", many_functions), ("many lets", many_lets)]:
         table(f"translate {name}", make, SOURCE_SIZES, ["translate", "a"])
+    table("read all forms", all_forms, SOURCE_SIZES, ["translate", "a"])
     table("run a chain of calls", call_chain, [250], ["run", "a", "step250", "250", "1"])
     table("eval many definitions", many_definitions, TEXT_SIZES, ["eval", "a", "fn.g0", "9", "L.nil"])
     table("eval many binds", many_binds, TEXT_SIZES, ["eval", "a", "fn.f0", "9", "7#U32"])
