@@ -70,7 +70,7 @@ def all_forms(size):
             f"fn sum{k}(tree: &Tree{k}<u32>, mut turns: u32) -> u32 {{\n"
             "    let mut sum: u32 = 0; let (low, high): (u32, u32) = (1u32, 2);\n"
             "    while turns > 0 && !(sum >= 1_000) { turns -= 1; if turns % 2 == 0 { continue; } sum += low * (high - turns) << 1; }\n"
-            f"    match *tree {{ Tree{k}::Leaf => {{}} Tree{k}::Node(ref_box, value) => sum = value, Tree{k}::Both(a, _) => {{ return a; }} }}\n"
+            f"    match *tree {{ Tree{k}::Leaf => {{}} Tree{k}::Node(_, value) => sum = value, Tree{k}::Both(a, _) => {{ return a; }} }}\n"
             "    let part = loop { if sum == 7 || turns > 3 { break sum as u8; } sum = sum ^ 0x1F | high & 3; };\n"
             f"    let made = Pair{k} {{ first: -5i64, second: (true, part) }};\n"
             f"    if let Pair{k} {{ first, second: (flag, 0) }} = made {{ assert!(flag, \"no flag\"); let of = Of{k}(first, false); of.0 as u32 }}\n"
