@@ -1,11 +1,12 @@
 -- No token's form but a string's has a blank in it.
 use Rattle.std.proofs.Common.{◌≡◌, refl, ap, sym, ◌∙◌, ℕ, zero, suc, ◌<◌, Bool, true, false, List, [], ◌∷◌, ◌++◌, drop, Some, IsUtf8, chars, arith}
-use Rattle.std.specs.Prelude.{◌&&◌, ◌||◌, ◌==◌, not, bytes_eq, if◌then◌else◌}
+use Rattle.std.specs.Prelude.{◌&&◌, ◌||◌, ◌==◌, nat_lt, not, bytes_eq, if◌then◌else◌}
 use Rattle.std.specs.List.{list_all, list_any}
 use Rattle.std.specs.Option.{is_some}
 use Rattle.std.specs.Str.{is_utf8}
 use Rattle.std.specs.Char.{is_ascii_digit}
 use Rattle.std.proofs.lemmas.Bool.{eqb-true}
+use Rattle.std.proofs.lemmas.Bool.Decides.{nat_tests}
 use Rattle.std.proofs.lemmas.Str.{chars-append, chars-IsAscii, IsUtf8-from_ascii}
 use Rattle.std.specs.Str.{IsAscii}
 use Rattle.unicode_ident.specs.Ident.{is_xid_continue}
@@ -34,6 +35,9 @@ and_first false b h = absurd cc
 pub and_second : (a b : Bool) → a && b ≡ true → b ≡ true
 and_second true b h = h
 and_second false b h = absurd cc
+
+pub and_both : (a b : Bool) → a ≡ true → b ≡ true → a && b ≡ true
+and_both a b p q = (λ i. p i && b) ∙ q
 
 pub or_false : (a b : Bool) → a ≡ false → b ≡ false → a || b ≡ false
 or_false true b p q = absurd cc
@@ -193,6 +197,22 @@ blank_in (x ∷ xs) ys h = blank_in xs ys (and_second (is_xid_continue x) (list_
 pub low : (c : ℕ) → c < 128 → IsAscii (c ∷ [])
 low c h zero = h
 low c h (suc i) = omega arith
+
+-- bytes that pass a test of ASCII bytes alone
+pub ascii_of : (p : ℕ → Bool) → ((c : ℕ) → p c ≡ true → c < 128) → (w : List ℕ) → list_all p w ≡ true → IsAscii w
+ascii_of p below [] h zero = omega arith
+ascii_of p below [] h (suc i) = omega arith
+ascii_of p below (c ∷ w) h zero = below c (and_first (p c) (list_all p w) h)
+ascii_of p below (c ∷ w) h (suc i) = ascii_of p below w (and_second (p c) (list_all p w) h) i
+
+abbrev pub is_low : ℕ → Bool
+is_low c = nat_lt c 128
+
+pub low_byte : (c : ℕ) → is_low c ≡ true → c < 128
+low_byte c h = grind (arith, nat_tests)
+
+pub low_digit : (c : ℕ) → is_ascii_digit c ≡ true → c < 128
+low_digit c h = grind (arith, nat_tests)
 
 pub chars_low : (c : ℕ) (v : List ℕ) → c < 128 → chars (c ∷ v) ≡ c ∷ chars v
 chars_low c v h = chars-append (c ∷ []) v (IsUtf8-from_ascii (c ∷ []) (low c h)) ∙ ap (λ x. x ++ chars v) (chars-IsAscii (c ∷ []) (low c h))

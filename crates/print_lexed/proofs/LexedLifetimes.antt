@@ -1,5 +1,5 @@
 -- Lifetimes, and places of fields, are lexed as themselves.
-use Rattle.std.proofs.Common.{◌≡◌, refl, ap, sym, ◌∙◌, ℕ, zero, suc, ◌<◌, Bool, true, false, List, [], ◌∷◌, get_or, Some, None, chars, codes, arith}
+use Rattle.std.proofs.Common.{◌≡◌, refl, ap, sym, ◌∙◌, ℕ, ◌<◌, Bool, true, false, List, [], ◌∷◌, Some, None, chars, codes, arith}
 use Rattle.std.specs.Prelude.{◌&&◌, ◌||◌, ◌==◌, not, bytes_eq, if◌then◌else◌}
 use Rattle.std.specs.List.{list_all}
 use Rattle.std.specs.Char.{is_ascii_digit}
@@ -16,7 +16,7 @@ use Rattle.rust_lex.specs.Numbers.{are_digits, is_small}
 use Rattle.source_grammar.specs.declared.class.Class.TheVariants as C
 use Rattle.source_grammar.specs.Spelled.{class_named}
 use Rattle.rust_printer.specs.Tok.{lifetime, placed, content_of}
-use Rattle.print_lexed.proofs.Blanks.{and_first, and_second, low}
+use Rattle.print_lexed.proofs.Blanks.{and_first, and_second, low, ascii_of, low_digit}
 use Rattle.print_lexed.proofs.LexedNames.{IsNormal, of_form, of_form_at, own_name, named_by, utf8_of, and_none}
 use Rattle.print_lexed.proofs.NormalNames.{quoted_name}
 use Rattle.print_lexed.proofs.Sequences.{IsLexed}
@@ -57,15 +57,6 @@ life_lexed w n h =
 
 -- ---- places
 
-low_digit : (c : ℕ) → is_ascii_digit c ≡ true → c < 128
-low_digit c h = grind (arith, nat_tests)
-
-low_at : (w : List ℕ) → list_all is_ascii_digit w ≡ true → (i : ℕ) → get_or w i 0 < 128
-low_at [] h zero = omega arith
-low_at [] h (suc i) = omega arith
-low_at (c ∷ w) h zero = low_digit c (and_first (is_ascii_digit c) (list_all is_ascii_digit w) h)
-low_at (c ∷ w) h (suc i) = low_at w (and_second (is_ascii_digit c) (list_all is_ascii_digit w) h) i
-
 not_this : (c k : ℕ) → k < 48 → is_ascii_digit c ≡ true → c == k ≡ false
 not_this c k l h = grind (arith, nat_tests)
 
@@ -78,6 +69,6 @@ digits_lexed [] h s = absurd cc
 digits_lexed (c ∷ w) h s =
     let d = and_first (is_ascii_digit c) (list_all is_ascii_digit w) h in
     let slash = not_this c 47 (omega arith) d in
-    of_form_at true (placed (c ∷ w)) Number K.Integer refl (omega arith) (IsUtf8-from_ascii (c ∷ w) (low_at (c ∷ w) h)) (not_this c 34 (omega arith) d)
+    of_form_at true (placed (c ∷ w)) Number K.Integer refl (omega arith) (IsUtf8-from_ascii (c ∷ w) (ascii_of is_ascii_digit low_digit (c ∷ w) h)) (not_this c 34 (omega arith) d)
     (λ i. (and_none (c == 47) (begins (λ d. d == 47) w) slash i) || (and_none (c == 47) (begins (λ d. d == 42) w) slash i)) h (small_kind (is_small (c ∷ w)) s)
     (sym (ap (λ b. if b then C.Digits else class_named (c ∷ w) C.Other) h)) refl

@@ -1,9 +1,8 @@
 -- Words and marks are lexed as themselves.
-use Rattle.std.proofs.Common.{◌≡◌, refl, ap, ◌∙◌, ℕ, zero, suc, ◌≤◌, ◌<◌, Bool, true, false, List, [], ◌∷◌, length, get_or, take, None, codes, arith}
-use Rattle.std.specs.Prelude.{◌==◌, ◌||◌, nat_lt}
+use Rattle.std.proofs.Common.{◌≡◌, refl, ap, ◌∙◌, ℕ, zero, suc, ◌≤◌, ◌<◌, Bool, true, false, List, [], ◌∷◌, length, take, None, codes, arith}
+use Rattle.std.specs.Prelude.{◌==◌, ◌||◌}
 use Rattle.std.specs.List.{list_all, list_any}
 use Rattle.std.specs.Char.{is_ascii_alphabetic, is_ascii_alphanumeric}
-use Rattle.std.proofs.lemmas.Bool.Decides.{nat_tests}
 use Rattle.std.proofs.lemmas.Str.{IsUtf8-from_ascii}
 use denote.Enum.Bare.{sameb}
 use Rattle.rust_lex.specs.declared.token.Kind.TheVariants as K
@@ -23,22 +22,13 @@ use Rattle.source_grammar.specs.Classes as G
 use Rattle.source_grammar.specs.Spelled.{class_named, class_marked}
 use Rattle.source_syntax.specs.Spelled as S
 use Rattle.rust_printer.specs.Tok.{mark, after}
-use Rattle.print_lexed.proofs.Blanks.{none, and_first, and_second}
+use Rattle.print_lexed.proofs.Blanks.{none, ascii_of, is_low, low_byte}
 use Rattle.print_lexed.proofs.LexedNames.{of_form, ascii_normal, own_name, kind_is, utf8_of, some_byte, no_quote, no_slash, first_byte, starts_low}
 use Rattle.print_lexed.proofs.Sequences.{IsLexed}
 
-abbrev is_low : ℕ → Bool
-is_low c = nat_lt c 128
-
-low_at : (w : List ℕ) → list_all is_low w ≡ true → (i : ℕ) → get_or w i 0 < 128
-low_at [] h zero = omega arith
-low_at [] h (suc i) = omega arith
-low_at (c ∷ w) h zero = let k = and_first (is_low c) (list_all is_low w) h in grind (arith, nat_tests)
-low_at (c ∷ w) h (suc i) = low_at w (and_second (is_low c) (list_all is_low w) h) i
-
 mark_by : (c : Class) → after (mark c) ≡ codes " " → list_all is_low (G.spelling c) ≡ true → 0 < length (G.spelling c) → begins (λ d. d == 34) (G.spelling c) ≡ false → begins_comment (G.spelling c) ≡ false → is_mark (G.spelling c) ≡ true →
     class_marked (G.spelling c) ≡ c → IsLexed false (mark c)
-mark_by c a l s q k m e = of_form (mark c) Mark K.Punct a s (IsUtf8-from_ascii (G.spelling c) (low_at (G.spelling c) l)) q k m refl e refl
+mark_by c a l s q k m e = of_form (mark c) Mark K.Punct a s (IsUtf8-from_ascii (G.spelling c) (ascii_of is_low low_byte (G.spelling c) l)) q k m refl e refl
 
 word_by : (c : Class) → after (mark c) ≡ codes " " → begins is_ascii_alphabetic (G.spelling c) ≡ true → list_all is_ascii_alphanumeric (G.spelling c) ≡ true → word_kind (G.spelling c) ≡ K.Word → class_named (G.spelling c) C.IntWord ≡ c →
     int_named (G.spelling c) ≡ None → IsLexed false (mark c)

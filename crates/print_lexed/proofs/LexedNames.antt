@@ -1,5 +1,5 @@
 -- Identifiers, words and marks are lexed as themselves before a blank.
-use Rattle.std.proofs.Common.{◌≡◌, refl, ap, sym, subst, ◌∙◌, ℕ, zero, suc, ◌<◌, Bool, true, false, List, [], ◌∷◌, ◌++◌, length, get_or, Some, None, IsUtf8, chars, encode_utf8_all, codes, arith}
+use Rattle.std.proofs.Common.{◌≡◌, refl, ap, sym, subst, ◌∙◌, ℕ, ◌<◌, Bool, true, false, List, [], ◌∷◌, ◌++◌, length, Some, None, IsUtf8, chars, encode_utf8_all, codes, arith}
 use Rattle.std.specs.Prelude.{◌&&◌, ◌||◌, ◌==◌, not, bytes_eq, if◌then◌else◌}
 use Rattle.std.specs.List.{list_all}
 use Rattle.std.specs.Char.{is_ascii_alphabetic, is_ascii_alphanumeric, is_ascii_digit}
@@ -24,7 +24,7 @@ use Rattle.source_grammar.specs.declared.class.Class.TheVariants as C
 use Rattle.source_grammar.specs.Spelled.{class_named}
 use Rattle.source_syntax.specs.Spelled as S
 use Rattle.rust_printer.specs.Tok.{Tok, named, placed, spelling, after, class_of, content_of, is_place}
-use Rattle.print_lexed.proofs.Blanks.{none, and_first, and_second, chars_low}
+use Rattle.print_lexed.proofs.Blanks.{none, and_first, and_second, chars_low, and_both, ascii_of, low_digit}
 use Rattle.print_lexed.proofs.BlankTokens.{before_blank}
 use Rattle.print_lexed.proofs.Sequences.{IsLexed}
 
@@ -118,9 +118,6 @@ name_lexed w n h =
 no_digit : (c : ℕ) → is_ascii_digit c ≡ true → (is_ascii_alphabetic c ≡ false) × (c == 95 ≡ false)
 no_digit c h = (grind (arith, nat_tests), grind (arith, nat_tests))
 
-low_digit : (c : ℕ) → is_ascii_digit c ≡ true → c < 128
-low_digit c h = grind (arith, nat_tests)
-
 no_place : (w : List ℕ) → is_identifier w ≡ true → is_place w ≡ false
 no_place [] h = refl
 no_place (c ∷ w) h = and_none (is_ascii_digit c) (list_all is_ascii_digit w) (by_test (is_ascii_digit c) refl) where
@@ -135,24 +132,15 @@ place_lexed w n h =
 
 -- ---- ASCII
 
-low_at : (w : List ℕ) → list_all is_ascii_alphanumeric w ≡ true → (i : ℕ) → get_or w i 0 < 128
-low_at [] h zero = omega arith
-low_at [] h (suc i) = omega arith
-low_at (c ∷ w) h zero = let k = and_first (is_ascii_alphanumeric c) (list_all is_ascii_alphanumeric w) h in grind (arith, nat_tests)
-low_at (c ∷ w) h (suc i) = low_at w (and_second (is_ascii_alphanumeric c) (list_all is_ascii_alphanumeric w) h) i
-
-low_byte : (c : ℕ) → is_ascii_alphanumeric c ≡ true → c < 128
-low_byte c h = grind (arith, nat_tests)
+low_letter : (c : ℕ) → is_ascii_alphanumeric c ≡ true → c < 128
+low_letter c h = grind (arith, nat_tests)
 
 goes_on : (w : List ℕ) → list_all is_ascii_alphanumeric w ≡ true → list_all is_xid_continue w ≡ true
 goes_on [] h = refl
 goes_on (c ∷ w) h =
     let a = and_first (is_ascii_alphanumeric c) (list_all is_ascii_alphanumeric w) h in
-    let e : is_xid_continue c ≡ true = is_xid_continue-ascii c (low_byte c a) ∙ (λ i. a i || (c == 95)) in
+    let e : is_xid_continue c ≡ true = is_xid_continue-ascii c (low_letter c a) ∙ (λ i. a i || (c == 95)) in
     (λ i. e i && list_all is_xid_continue w) ∙ goes_on w (and_second (is_ascii_alphanumeric c) (list_all is_ascii_alphanumeric w) h)
-
-pub and_both : (a b : Bool) → a ≡ true → b ≡ true → a && b ≡ true
-and_both a b p q = (λ i. p i && b) ∙ q
 
 not_lone : (c : ℕ) (w : List ℕ) → is_ascii_alphabetic c ≡ true → not (bytes_eq (c ∷ w) (95 ∷ [])) ≡ true
 not_lone c w h =
@@ -164,9 +152,9 @@ pub ascii_normal : (w : List ℕ) → begins is_ascii_alphabetic w ≡ true → 
 unfolding is_identifier
 ascii_normal [] s h = absurd cc
 ascii_normal (c ∷ w) s h =
-    let low : IsAscii (c ∷ w) = low_at (c ∷ w) h in
+    let low : IsAscii (c ∷ w) = ascii_of is_ascii_alphanumeric low_letter (c ∷ w) h in
     let cs : chars (c ∷ w) ≡ c ∷ w = chars-IsAscii (c ∷ w) low in
-    let start : starts_identifier c ≡ true = (λ i. is_xid_start-ascii c (low_byte c (and_first (is_ascii_alphanumeric c) (list_all is_ascii_alphanumeric w) h)) i || (c == 95)) ∙ (λ i. s i || (c == 95)) in
+    let start : starts_identifier c ≡ true = (λ i. is_xid_start-ascii c (low_letter c (and_first (is_ascii_alphanumeric c) (list_all is_ascii_alphanumeric w) h)) i || (c == 95)) ∙ (λ i. s i || (c == 95)) in
     record {
       identifier = and_both (is_utf8 (c ∷ w)) (are_identifier (chars (c ∷ w))) (is_utf8-from_IsUtf8 (c ∷ w) (IsUtf8-from_ascii (c ∷ w) low)) (ap are_identifier cs ∙ and_both _ _ (and_both _ _ start (goes_on (c ∷ w) h)) (not_lone c w s));
       normal = ap nfc cs ∙ normalize-ascii Nfc (c ∷ w) (All-from_ascii (c ∷ w) low) ∙ sym cs;

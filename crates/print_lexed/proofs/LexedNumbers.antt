@@ -1,5 +1,5 @@
 -- Integers, the words of integer types, and the places of fields are lexed as themselves.
-use Rattle.std.proofs.Common.{◌≡◌, refl, ap, sym, ◌∙◌, ℕ, zero, suc, ◌+◌, ◌*◌, ◌/◌, ◌%◌, ◌^◌, ◌≤◌, ◌<◌, Bool, true, false, List, [], ◌∷◌, ◌++◌, length, length-append, get_or, drop, Option, Some, None, arith}
+use Rattle.std.proofs.Common.{◌≡◌, refl, ap, sym, ◌∙◌, ℕ, zero, suc, ◌+◌, ◌*◌, ◌/◌, ◌%◌, ◌^◌, ◌≤◌, ◌<◌, Bool, true, false, List, [], ◌∷◌, ◌++◌, length, length-append, drop, Option, Some, None, arith}
 use Rattle.std.specs.Prelude.{◌==◌, ◌||◌, ◌&&◌, nat_lt, if◌then◌else◌}
 use Rattle.std.specs.List.{list_all}
 use Rattle.std.specs.Char.{is_ascii_digit, is_ascii_alphabetic, is_ascii_alphanumeric, digit_value}
@@ -21,7 +21,7 @@ use Rattle.source_grammar.specs.Spelled.{class_named}
 use Rattle.source_syntax.specs.Spelled as S
 use Rattle.rust_printer.specs.ShownWords.{int_word}
 use Rattle.rust_printer.specs.Tok.{int, number, suffix_of as ending}
-use Rattle.print_lexed.proofs.Blanks.{and_first, and_second}
+use Rattle.print_lexed.proofs.Blanks.{and_first, and_second, and_both, ascii_of, is_low, low_byte}
 use Rattle.print_lexed.proofs.LexedNames.{of_form, ascii_normal, own_name, kind_is, utf8_of, some_byte, no_quote, no_slash}
 use Rattle.print_lexed.proofs.Sequences.{IsLexed}
 
@@ -108,21 +108,12 @@ decimal_writes n h = decimal_by_steps_wide Writes one_digit more_digits n (omega
 
 -- ---- a number with the type at its end
 
-abbrev pub is_low : ℕ → Bool
-is_low c = nat_lt c 128
-
-low_at : (w : List ℕ) → list_all is_low w ≡ true → (i : ℕ) → get_or w i 0 < 128
-low_at [] h zero = omega arith
-low_at [] h (suc i) = omega arith
-low_at (c ∷ w) h zero = let k = and_first (is_low c) (list_all is_low w) h in grind (arith, nat_tests)
-low_at (c ∷ w) h (suc i) = low_at w (and_second (is_low c) (list_all is_low w) h) i
-
-low_digit : (c : ℕ) → is_ascii_digit c ≡ true → is_low c ≡ true
-low_digit c h = grind (arith, nat_tests)
+is_low_digit : (c : ℕ) → is_ascii_digit c ≡ true → is_low c ≡ true
+is_low_digit c h = grind (arith, nat_tests)
 
 low_digits : (ds : List ℕ) → list_all is_ascii_digit ds ≡ true → list_all is_low ds ≡ true
 low_digits [] h = refl
-low_digits (c ∷ ds) h = (λ i. low_digit c (and_first (is_ascii_digit c) (list_all is_ascii_digit ds) h) i && list_all is_low ds) ∙ low_digits ds (and_second (is_ascii_digit c) (list_all is_ascii_digit ds) h)
+low_digits (c ∷ ds) h = (λ i. is_low_digit c (and_first (is_ascii_digit c) (list_all is_ascii_digit ds) h) i && list_all is_low ds) ∙ low_digits ds (and_second (is_ascii_digit c) (list_all is_ascii_digit ds) h)
 
 -- what may stand at the end
 pub record IsEnd (e : List ℕ) (suffix : Option IntTy) : Type 0 where
@@ -234,9 +225,6 @@ some_if : {A : Type 0} (b : Bool) (x : A) → b ≡ true → (if b then Some x e
 some_if true x h = refl
 some_if false x h = absurd cc
 
-both_true : (a b : Bool) → a ≡ true → b ≡ true → a && b ≡ true
-both_true a b p q = (λ i. p i && b) ∙ q
-
 no_first : (k : ℕ) (ds e : List ℕ) → k < 48 → 0 < length ds → list_all is_ascii_digit ds ≡ true → begins (λ c. c == k) (ds ++ e) ≡ false
 no_first k [] e l s h = absurd (omega (arith, s))
 no_first k (c ∷ ds) e l s h = let a = and_first (is_ascii_digit c) (list_all is_ascii_digit ds) h in grind (arith, nat_tests)
@@ -258,7 +246,7 @@ number_lexed n suffix l =
     let some = d.0.0 in
     let slash = no_first 47 (decimal n) (ending suffix) (omega arith) d.0.0 d.0.1 in
     let integer : integer_of (decimal n ++ ending suffix) ≡ Some (record { value = n; suffix = suffix }) =
-    some_if (is_number (decimal n ++ ending suffix) && is_small (decimal n ++ ending suffix)) (record { value = number_value (decimal n ++ ending suffix); suffix = int_named (suffix_of (decimal n ++ ending suffix)) }) (both_true _ _ f.is f.small)
+    some_if (is_number (decimal n ++ ending suffix) && is_small (decimal n ++ ending suffix)) (record { value = number_value (decimal n ++ ending suffix); suffix = int_named (suffix_of (decimal n ++ ending suffix)) }) (and_both _ _ f.is f.small)
     ∙ (λ i. Some (record { value = f.value i; suffix = f.named i })) in
-    of_form (number n suffix) Number K.Integer refl (omega (arith, count, some)) (IsUtf8-from_ascii (decimal n ++ ending suffix) (low_at (decimal n ++ ending suffix) (all_append is_low (decimal n) (ending suffix) (low_digits (decimal n) d.0.1) e.low)))
+    of_form (number n suffix) Number K.Integer refl (omega (arith, count, some)) (IsUtf8-from_ascii (decimal n ++ ending suffix) (ascii_of is_low low_byte (decimal n ++ ending suffix) (all_append is_low (decimal n) (ending suffix) (low_digits (decimal n) d.0.1) e.low)))
     (no_first 34 (decimal n) (ending suffix) (omega arith) d.0.0 d.0.1) (or_no _ _ (two_no 47 47 (decimal n ++ ending suffix) slash) (two_no 47 42 (decimal n ++ ending suffix) slash)) f.is (some_if (is_small (decimal n ++ ending suffix)) K.Integer f.small) refl (ap S.number integer)

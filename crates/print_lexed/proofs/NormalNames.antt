@@ -24,8 +24,8 @@ use Rattle.unicode_normalization.proofs.ComposeLemmas.{compose_after-cases, comp
 use Rattle.unicode_normalization.proofs.FormsLemmas.{nfc_idem, nfc-by_nfd, normalize-Nfd, decomposed-passing, is_final-Nfd, quick_check-ascii, class-latin}
 use Rattle.rust_lex.specs.Characters.{begins}
 use Rattle.rust_lex.specs.Identifiers.{starts_identifier, are_identifier, is_identifier, is_named, name_of}
-use Rattle.print_lexed.proofs.Blanks.{and_first, and_second, chars_low}
-use Rattle.print_lexed.proofs.LexedNames.{IsNormal, and_both}
+use Rattle.print_lexed.proofs.Blanks.{and_first, and_second, chars_low, and_both}
+use Rattle.print_lexed.proofs.LexedNames.{IsNormal}
 
 -- ---- characters of identifiers are scalar values
 

@@ -1,5 +1,5 @@
 -- Lexemes that say what is lexed as itself, and what tokens of the grammar take of them.
-use Rattle.std.proofs.Common.{◌≡◌, refl, ap, ◌∙◌, inl, inr, Bool, true, false, ◌&&◌, ◌||◌, List, [], ◌∷◌}
+use Rattle.std.proofs.Common.{◌≡◌, refl, ap, ◌∙◌, inl, inr, Bool, true, false, ◌||◌, List, [], ◌∷◌}
 use Rattle.std.specs.Prelude.{if◌then◌else◌}
 use Rattle.std.specs.List.{list_any, list_all}
 use denote.Enum.Bare.{sameb, same_true}
@@ -15,6 +15,7 @@ use Rattle.source_grammar.specs.contracts.terminal.Terminal.{the_type}
 use Rattle.source_grammar.specs.Classes.{classes}
 use Rattle.source_grammar.specs.Lexemes.{has_class}
 use Rattle.source_ways.specs.Says.{name_in, number_in, is_class, ident, lifetime}
+use Rattle.print_lexed.proofs.Blanks.{and_first, and_second}
 use Rattle.print_lexed.proofs.Spellable.{IsName, IsPlace, IsLife, IsLifetime, IsSize}
 
 -- by its class
@@ -46,19 +47,11 @@ one_among c (d ∷ ds) h = one_by (sameb cls.the_type c d) c d ds refl (λ k. on
 pub one_of : (t : Terminal) (c : Class) → has_class t c ≡ true → IsOneOf c (classes t)
 one_of t c h = one_among c (classes t) h
 
-first_true : (a b : Bool) → a && b ≡ true → a ≡ true
-first_true true b h = refl
-first_true false b h = absurd cc
-
-second_true : (a b : Bool) → a && b ≡ true → b ≡ true
-second_true true b h = h
-second_true false b h = absurd cc
-
 -- what holds of all classes of a list
 pub of_all : (test : Class → Bool) (c : Class) (cs : List Class) → list_all test cs ≡ true → IsOneOf c cs → test c ≡ true
 of_all test c [] all one = absurd one
-of_all test c (d ∷ ds) all (inl e) = ap test e ∙ first_true (test d) (list_all test ds) all
-of_all test c (d ∷ ds) all (inr one) = of_all test c ds (second_true (test d) (list_all test ds) all) one
+of_all test c (d ∷ ds) all (inl e) = ap test e ∙ and_first (test d) (list_all test ds) all
+of_all test c (d ∷ ds) all (inr one) = of_all test c ds (and_second (test d) (list_all test ds) all) one
 
 -- ---- what a token takes
 

@@ -2,7 +2,6 @@
 use Rattle.std.specs.Prelude.{ℕ, ◌<◌, ◌^◌, true, false, List, [], ◌∷◌, Option, Some, None}
 use Rattle.aen_base.specs.declared.span.Span.{Span}
 use Rattle.rust_ast.specs.declared.ident.Ident.{Ident}
-use Rattle.rust_ast.specs.declared.program.Program.{Program}
 use Rattle.rust_ast.specs.declared.program.Item.{Item}
 use Rattle.rust_ast.specs.declared.program.Item.TheVariants as items
 use Rattle.rust_ast.specs.declared.program.Param.{Param}
@@ -184,6 +183,3 @@ IsItem items.UseMem = Unit {0}
 abbrev pub AreItems : List Item → Type 0
 AreItems [] = Unit {0}
 AreItems (item ∷ items) = IsItem item × AreItems items
-
-abbrev pub IsProgram : Program → Type 0
-IsProgram x = AreItems x.items

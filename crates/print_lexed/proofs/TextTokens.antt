@@ -24,7 +24,7 @@ use Rattle.source_grammar.specs.Spelled.{class_among, class_named, class_marked}
 use Rattle.source_syntax.specs.Spelled as S
 use Rattle.source_ways.specs.Says.{name_in, number_in}
 use Rattle.rust_printer.specs.Tok.{is_place}
-use Rattle.print_lexed.proofs.Blanks.{and_first, and_second}
+use Rattle.print_lexed.proofs.Blanks.{and_first, and_second, and_both}
 use Rattle.print_lexed.proofs.LexedLifetimes.{life_lexed, digits_lexed}
 use Rattle.print_lexed.proofs.LexedNames.{name_lexed, place_lexed}
 use Rattle.print_lexed.proofs.NormalNames.{name_normal, quoted_name}
@@ -51,24 +51,28 @@ not_true : {A : Type 0} (b : Bool) → not b ≡ true → b ≡ true → A
 not_true true p q = absurd cc
 not_true false p q = absurd cc
 
--- a word, a lifetime, a number or a string with nothing to be printed
-plain : (w : List ℕ) (c : Class) (x : Content) → is_plain c ≡ true → (number_in x).0 ≡ 0 → Says w c x
-plain w c x p z =
-    let o = and_second (not (has_class T.Identifier c)) (is_other c) p in
+-- of no lifetime, digits or dot
+others : (w : List ℕ) (c : Class) (x : Content) → is_other c ≡ true → (has_class T.Identifier c ≡ true → IsName (name_in x) × (class_named (name_in x) C.Other ≡ c)) → IsSize (number_in x).0 → Says w c x
+others w c x o n z =
     let d = and_second (not (has_class T.Lifetime c)) (not (has_class T.Digits c) && not (has_class T.Dot c)) o in
     record {
-      name = λ h. not_true (has_class T.Identifier c) (and_first (not (has_class T.Identifier c)) (is_other c) p) h;
+      name = n;
       life = λ h. not_true (has_class T.Lifetime c) (and_first (not (has_class T.Lifetime c)) (not (has_class T.Digits c) && not (has_class T.Dot c)) o) h;
       digits = λ h. not_true (has_class T.Digits c) (and_first (not (has_class T.Digits c)) (not (has_class T.Dot c)) d) h;
-      size = omega (arith, z);
+      size = z;
       dot = λ e. not_true (has_class T.Dot c) (and_second (not (has_class T.Digits c)) (not (has_class T.Dot c)) d) (ap (has_class T.Dot) e);
     }
 
+-- of no identifier either
+plain : (w : List ℕ) (c : Class) (x : Content) → is_plain c ≡ true → (number_in x).0 ≡ 0 → Says w c x
+plain w c x p z =
+    others w c x (and_second (not (has_class T.Identifier c)) (is_other c) p) (λ h. not_true (has_class T.Identifier c) (and_first (not (has_class T.Identifier c)) (is_other c) p) h) (omega (arith, z))
+
 -- what holds of each of these classes and of the other
-among_all : (test : Class → Bool) (w : List ℕ) (other : Class) (cs : List Class) → test other ≡ true → list_all test cs ≡ true → test (class_among w other cs) ≡ true
-among_all test w other [] o h = o
-among_all test w other (c ∷ cs) o h = by_test (bytes_eq w (spelling c)) (among_all test w other cs o (and_second (test c) (list_all test cs) h)) where
-  by_test : (b : Bool) → test (class_among w other cs) ≡ true → test (if b then c else class_among w other cs) ≡ true
+among_all : (test : Class → Bool) (w : List ℕ) (d : Class) (cs : List Class) → test d ≡ true → list_all test cs ≡ true → test (class_among w d cs) ≡ true
+among_all test w d [] o h = o
+among_all test w d (c ∷ cs) o h = by_test (bytes_eq w (spelling c)) (among_all test w d cs o (and_second (test c) (list_all test cs) h)) where
+  by_test : (b : Bool) → test (class_among w d cs) ≡ true → test (if b then c else class_among w d cs) ≡ true
   by_test true k = and_first (test c) (list_all test cs) h
   by_test false k = k
 
@@ -131,27 +135,17 @@ SaysOf w b kind = Says w (S.class_of kind b w) (S.content_of kind b w)
 ident_says : (w : List ℕ) (b : Bool) → is_named w ≡ true → word_kind (name_of w) ≡ K.Ident → SaysOf w b K.Ident
 ident_says w b n k =
     let normal = name_normal w n in
-    let o = among_all is_other (name_of w) C.Other names refl refl in
-    let d = and_second (not (has_class T.Lifetime (class_named (name_of w) C.Other))) (not (has_class T.Digits (class_named (name_of w) C.Other)) && not (has_class T.Dot (class_named (name_of w) C.Other))) o in
-    record {
-      name = λ h. ((name_lexed (name_of w) normal k, place_lexed (name_of w) normal k), refl);
-      life = λ h. not_true (has_class T.Lifetime (class_named (name_of w) C.Other)) (and_first (not (has_class T.Lifetime (class_named (name_of w) C.Other))) (not (has_class T.Digits (class_named (name_of w) C.Other)) && not (has_class T.Dot (class_named (name_of w) C.Other))) o) h;
-      digits = λ h. not_true (has_class T.Digits (class_named (name_of w) C.Other)) (and_first (not (has_class T.Digits (class_named (name_of w) C.Other))) (not (has_class T.Dot (class_named (name_of w) C.Other))) d) h;
-      size = omega arith;
-      dot = λ e. not_true (has_class T.Dot (class_named (name_of w) C.Other)) (and_second (not (has_class T.Digits (class_named (name_of w) C.Other))) (not (has_class T.Dot (class_named (name_of w) C.Other))) d) (ap (has_class T.Dot) e);
-    }
+    others w (class_named (name_of w) C.Other) (says.Name (name_of w)) (among_all is_other (name_of w) C.Other names refl refl)
+    (λ h. ((name_lexed (name_of w) normal k, place_lexed (name_of w) normal k), refl)) (omega arith)
 
 no_size : (x : Option IntTy) → (number_in (S.int_type x)).0 ≡ 0
 no_size None = refl
 no_size (Some ty) = refl
 
-both_true : (a b : Bool) → a ≡ true → b ≡ true → a && b ≡ true
-both_true a b p q = (λ i. p i && b) ∙ q
-
 word_says : (w : List ℕ) (b : Bool) → is_word (name_of w) ≡ true → SaysOf w b K.Word
 word_says w b h =
     plain w (class_named (name_of w) C.IntWord) (S.int_type (int_named (name_of w)))
-    (both_true _ _ (word_class (name_of w) names no_names h) (among_all is_other (name_of w) C.IntWord names refl refl)) (no_size (int_named (name_of w)))
+    (and_both _ _ (word_class (name_of w) names no_names h) (among_all is_other (name_of w) C.IntWord names refl refl)) (no_size (int_named (name_of w)))
 
 identifier_says : (w : List ℕ) (b : Bool) (kind : Kind) → kind_of Identifier w ≡ Some kind → SaysOf w b kind
 identifier_says w b kind e =
