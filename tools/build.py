@@ -25,8 +25,8 @@ PARTS = ("src", "specs", "proofs")
 MEMORY = 3_000_000_000
 # A crate of so many lines gains from more than one process, and hardly from more than MOST.
 LARGE, MOST = 1_000, 4
-# Seconds of one processor for a line of code, definitions or proofs, as measured on whole builds.
-SECONDS_A_LINE = 0.17
+# Seconds of one processor for a line of code, definitions or proofs, as measured on whole runs of the gate.
+SECONDS_A_LINE = 0.08
 # How often a line tells what is at work where there is no terminal, in seconds.
 TELL = 60
 
