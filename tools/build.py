@@ -25,7 +25,8 @@ PARTS = ("src", "specs", "proofs")
 MEMORY = 3_000_000_000
 # A crate of so many lines gains from more than one process, and hardly from more than MOST.
 LARGE, MOST = 1_000, 4
-# Seconds of one processor for a line of code, definitions or proofs, as measured on whole runs of the gate.
+# Seconds of one processor for a line of code, definitions or proofs: 0.05 over the crates that the gate was timed on,
+# and more since builds wait for each other. No whole build was timed since.
 SECONDS_A_LINE = 0.08
 # How often a line tells what is at work where there is no terminal, in seconds.
 TELL = 60
