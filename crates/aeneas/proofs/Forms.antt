@@ -4,7 +4,7 @@ use Rattle.std.specs.Prelude.{All, MatchOption, Option, None, Some, codes}
 use Rattle.std.proofs.lemmas.List.Elements.{All-cons, All-head, All-tail}
 use Rattle.aeneas.specs.declared.command.Command.{Command}
 use Rattle.aeneas.specs.declared.command.Command.TheVariants.{Check, Translate, Run, Eval}
-use Rattle.aeneas.specs.Words.{IsShort, IsFuel, IsCheck, IsTranslate, HasNoForm}
+use Rattle.aeneas.specs.Words.{IsShort, IsFuel, HasNoForm}
 use Rattle.aeneas.specs.Parsed.{IsCommand, IsNoFileForm, IsFileForm, IsNoCall, IsCallOf}
 
 all_none : {X : Type 0} (P : X → Type 0) → All P []
