@@ -6,6 +6,11 @@ A new command is one more row here.
 # Words, what the command does, an example.
 COMMANDS = [
     (
+        "check FILE",
+        "tells whether a source is a program that is translated",
+        "./aeneas check examples/add1.rs",
+    ),
+    (
         "translate FILE",
         "writes the definitions of a source",
         "./aeneas translate examples/add1.rs",

@@ -116,21 +116,37 @@ pub(crate) fn productions_of(part: Part) -> Productions
 
     def classes(self):
         d = self.d
-        arms = "".join(f"        Terminal::{t} => &[{', '.join('Class::' + c for c in d.of_token[t])}],\n" for t in d.terminals)
-        yield "src/classes.rt", f"""//! The classes of each token. {NOTE}
+        test = lambda of: f"class == Class::{of[0]}" if len(of) == 1 else f"is_among(&[{', '.join('Class::' + c for c in of)}], class)"
+        arms = "".join(f"        Terminal::{t} => {test(d.of_token[t])},\n" for t in d.terminals)
+        yield "src/classes.rt", f"""//! Which classes a token has. {NOTE}
 
 ghost use Rattle.std.specs.Prelude.{{◌≡◌}};
+ghost use Rattle.std.specs.List.{{list_any}};
+ghost use denote.Enum.Bare.{{sameb}};
 ghost use Rattle.{d.crate}.specs.Classes as grammar;
+ghost use Rattle.{d.crate}.specs.contracts.class.Class.{{the_type}};
 
 use crate::class::Class;
 use crate::terminal::Terminal;
 
-/// The classes of a token.
-pub(crate) fn classes_of(terminal: Terminal) -> &'static [Class]
-    ensures {{ result.now ≡ grammar.classes terminal }}
+/// Whether a token has a class.
+pub(crate) fn has_class(terminal: Terminal, class: Class) -> bool
+    ensures {{ result ≡ list_any (sameb the_type class) (grammar.classes terminal) }}
 {{
     match terminal {{
 {arms}    }}
+}}
+
+/// Whether a class is one of these.
+fn is_among(classes: &[Class], class: Class) -> bool
+    ensures {{ result ≡ list_any (sameb the_type class) classes.now }}
+{{
+    for one in classes {{
+        if class == *one {{
+            return true;
+        }}
+    }}
+    false
 }}
 """
         arms = "".join(f'        Class::{c} => "{w}",\n' for w, c in d.written().items())

@@ -45,6 +45,7 @@ SOURCE = "fn f(a: u32, b: u32) -> u32 { let c = a + b; c + 1 } fn g(x: u32) -> u
 TEXT = os.path.join(os.path.dirname(os.path.abspath(__file__)), "..", "examples", "list.lean")
 CALL = ["fn.first::<U8>", "1", "(List.cons 7#U8 (List.cons 8#U8 List.nil))", "0#U8"]
 COMMANDS = [
+    ["check", "a.rs"],
     ["translate", "a.rs"],
     ["run", "a.rs", "g", "2", "5"],
     ["run", "a.rs", "g", "2"],

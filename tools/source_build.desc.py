@@ -66,6 +66,12 @@ BESIDE = {
     "fields": "StructBody Field TupleField Variant VariantBody",
 }
 
+# The crate that what productions build stands in, by section: two of about the same length, checked side by side.
+STANDS_IN = {
+    "source_items": "items generics fields types patterns",
+    "source_expressions": "blocks expressions paths lists",
+}
+
 # Where the types of code come from.
 IMPORTS = {
     "source_ways::clauses": "ArmBody Body Conditional",

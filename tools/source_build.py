@@ -1,12 +1,15 @@
 #!/usr/bin/env python3
-"""Writes the machine that builds the tree of a source: source_build.py, and then `rt fmt` in both crates
+"""Writes the machine that builds the tree of a source: source_build.py, and then `rt fmt` in each of its crates
 
 Reads source_build.desc.py, source_ways.desc.py and the grammar that this one names, and the signatures of the ways in code.
 Written into source_values are
 
     src/value.rt, specs/Held.antt      what is held of each part
     src/taking.rt, src/taking/*.rt     how it is taken off the stack
-    src/made.rt, src/made/*.rt         what productions build, one function for those that do the same
+
+into source_items and source_expressions
+
+    src/*.rt                           what productions build, one function for those that do the same
 
 and into source_builder
 
@@ -109,8 +112,6 @@ class Way:
 class Machine:
     """What is known of a grammar's parts and ways. Another grammar's machine (text_ways.py) says where it differs."""
 
-    MADE_IN = VALUES
-    SEEN = {"taking": "pub(crate) ", "made": "pub "}
     HELD = (("Items", "The items of a program"), ("Writtens", "The types of a list"))
 
     def __init__(self):
@@ -124,6 +125,7 @@ class Machine:
         self.variants = [v for variants in self.taking.values() for v in variants]
         self.subject_of = {f"take_{snake(name)}": subject for subject, variants in self.taking.items() for name, _, _ in variants}
         self.beside = {part: place for place, parts in given["BESIDE"].items() for part in parts.split()}
+        self.stands_in = {place: crate for crate, places in given["STANDS_IN"].items() for place in places.split()}
         self.variant_of = {carried: name for name, carried, _ in self.variants}
         self.read_boxes()
         self.read_carriers()
@@ -273,7 +275,7 @@ def made_function(machine, entry):
     else:
         sign, ensures = "Value", f"{built} result (reverse values.new)"
     return "\n".join([
-        doc, f"{machine.SEEN['made']}fn {at}({alloc}values: &mut Stack) -> {sign}",
+        doc, f"pub fn {at}({alloc}values: &mut Stack) -> {sign}",
         f"    requires {{ CanBuild {part} {place} (reverse values.old) }}",
         f"    ensures {{ {ensures} }}", "{"] + body + ["}"]) + "\n"
 
@@ -310,7 +312,7 @@ ghost use Rattle.source_values.specs.Stacked.{HasToken, HasMark, HasPart, Is};
 TAKERS = '''
 /// Takes a lexeme off.
 #[tactic(auto, using(crate::proofs::Newest::popped))]
-pub(crate) fn take_token(values: &mut Stack) -> Lexeme
+pub fn take_token(values: &mut Stack) -> Lexeme
     requires { HasToken (reverse values.old) }
     ensures { reverse values.old ≡ I.Token result ∷ reverse values.new }
 {
@@ -327,7 +329,7 @@ pub(crate) fn take_token(values: &mut Stack) -> Lexeme
 }
 
 /// Takes a lexeme off of which only its place counts.
-pub(crate) fn take_mark(values: &mut Stack) -> Span
+pub fn take_mark(values: &mut Stack) -> Span
     requires { HasToken (reverse values.old) }
     ensures { HasMark (reverse values.old) result (reverse values.new) }
 {
@@ -386,7 +388,7 @@ pub fn held_{snake(name)}(value: Value) -> {machine.holds(machine.code_of[name])
     requires {{ Is V.{name} value }}
     ensures {{ value ≡ V.{name} result }}
 ''' + only(machine, name, "value")
-    subjects = "".join(f"{machine.SEEN['taking']}mod {s};\n" for s in sorted(machine.taking))
+    subjects = "".join(f"pub mod {s};\n" for s in sorted(machine.taking))
     head, uses = TAKING.split("\n\n", 1)
     machine.write(VALUES, "src/taking.rt", head + "\n\n" + subjects + "\n" + uses
           + machine.uses(text, ["use crate::value::{Stack, Value};"]) + text)
@@ -395,7 +397,7 @@ pub fn held_{snake(name)}(value: Value) -> {machine.holds(machine.code_of[name])
         for name, _, _ in variants:
             text += f'''
 /// Takes the value of a part off that is held as `{name}`.
-{machine.SEEN["taking"]}fn take_{snake(name)}(values: &mut Stack) -> {machine.holds(machine.code_of[name])}
+pub fn take_{snake(name)}(values: &mut Stack) -> {machine.holds(machine.code_of[name])}
     requires {{ Has V.{name} (reverse values.old) }}
     ensures {{ reverse values.old ≡ I.Part (V.{name} result) ∷ reverse values.new }}
 ''' + only(machine, name, "take_part(values)")
@@ -442,10 +444,10 @@ def write_made(machine):
     files = made_files(machine)
     for section, entries in files.items():
         text = "\n".join(made_function(machine, e) for e in entries)
-        more = ["use crate::value::{Stack, Value};"]
+        more = ["use source_values::{Stack, Value};"]
         takes = sorted(set(re.findall(r"\b(?:take|drop)_\w+", text)))
         for place in sorted(set(machine.taken_in(t) for t in takes)):
-            more.append(f"use crate::taking{place}::{{{', '.join(t for t in takes if machine.taken_in(t) == place)}}};")
+            more.append(f"use source_values::taking{place}::{{{', '.join(t for t in takes if machine.taken_in(t) == place)}}};")
         for module in sorted(set(machine.modules.values())):
             if f"{module}::" in text:
                 more.append(f"use source_ways::{module};")
@@ -453,9 +455,7 @@ def write_made(machine):
         for kind, (short, _, _) in ((k, v) for k, v in machine.grammar.parameters.items()):
             if re.search(rf"(?<![\w.]){short}\.", "\n".join(l for l in text.split("\n") if "IsBuilt" in l or "CanBuild" in l)):
                 head += f"ghost use Rattle.source_grammar.specs.declared.part.{kind}.TheVariants as {short};\n"
-        machine.write(machine.MADE_IN, f"src/made/{section}.rt", head + "\n" + machine.uses(text, more) + "\n" + text)
-    machine.write(machine.MADE_IN, "src/made.rt", "//! What productions build. Written by tools/source_build.py.\n\n"
-          + "".join(f"{machine.SEEN['made']}mod {s};\n" for s in sorted(files)))
+        machine.write(machine.stands_in[section], f"src/{section}.rt", head + "\n" + machine.uses(text, more) + "\n" + text)
 
 
 # ---- which function builds a part by its production
@@ -595,7 +595,7 @@ def write_building(machine):
         for made in sorted(set(machine.place(e[1]) for e in machine.made.values())):
             names = sorted(set(e[0] for e in machine.made.values() if machine.place(e[1]) == made and re.search(rf"\b{e[0]}\(", text)))
             if names:
-                more.append(f"use source_values::made::{made}::{{{', '.join(names)}}};")
+                more.append(f"use {machine.stands_in[made]}::{made}::{{{', '.join(names)}}};")
         head = f"//! What builds {section} by their productions. Written by tools/source_build.py.\n\n" + MADE
         contracts = "\n".join(l for l in text.split("\n") if "IsBuilt" in l or "CanBuild" in l)
         for kind, (short, _, _) in machine.grammar.parameters.items():

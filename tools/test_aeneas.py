@@ -34,9 +34,11 @@ def fn.add1 (n : Nat) (v0 : U32) : Result U32 :=
 SUMS, LIST = os.path.join(ROOT, "examples", "sums.rs"), os.path.join(ROOT, "examples", "list.lean")
 # Words, the status, and what is written.
 ROWS = [
+    (["check", "add 1.rs"], 0, "accepted\n"),
     (["translate", "add 1.rs"], 0, ADD1),
     (["eval", LIST, "fn.sum", "4", "(List.cons 1#U32 (List.cons 2#U32 List.nil))"], 0, "ok 3#U32\n"),
     (["translate"], 1, "refused 1 usage\n"),
+    (["check", "add 1.rs", "add 1.rs"], 1, "refused 1 usage\n"),
     (["-x", "--data", "a=b"], 1, "refused 1 usage\n"),
     (["run", "none.rs", "f", "1"], 2, "refused 2 read\n"),
     (["translate", "./broken.rs"], 5, None),

@@ -77,10 +77,10 @@ def table(name, holds, title, binder, proof_of, extra):
 use Rattle.std.specs.Prelude.{{refl}}
 {extra}use Rattle.text_table.specs.declared.part.Part.{{Part}}
 use Rattle.text_table.specs.declared.part.Part.TheVariants as N
-use Rattle.raw_reader.specs.Makes.{{made}}
+use Rattle.raw_ways.specs.Makes.{{made}}
 """
     if any("ways." in p for p in proofs):
-        text += "use Rattle.raw_reader.specs.Ways as ways\n"
+        text += "use Rattle.raw_ways.specs.Ways as ways\n"
     text += used([holds, "OfEach"], "Readings") + used(lemmas_in(proofs, module), module)
     text += f"\npub {name.lower()} : (n : Part) → OfEach n ({holds} n) (made n)\n" + "\n".join(lines) + "\n"
     with open(os.path.join(ROOT, name + ".antt"), "w", encoding="utf-8") as out:

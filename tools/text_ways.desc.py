@@ -54,14 +54,14 @@ HELD = (("Text", "The text"), ("Type", "The type"), ("Atom", "The atom"))
 IMPORTS = {
     "raw_values::front_list": "FrontList",
     "raw_values::rests": "AfterConstructor AfterName AfterTypeName Bound NameEnd VariantRest",
-    "crate::ways": "spelled",
+    "raw_ways": "spelled",
     "aen_base": "Boxed List NoMem",
     "raw_ast": "Computation Constructor Declaration Definition DefinitionName Operation Pattern RawAtom RawCode RawText RawType Spelling Variant",
     "text_table": "Lexeme Part",
     "std::alloc": "Global",
 }
 
-# The modules of raw_reader/src/ways/ that ways stand in.
+# The modules of raw_ways/src/ that ways stand in.
 WAYS_IN = "atoms code declarations definitions primitives types"
 
 # A way for each production of a part, in order: names for the values of its symbols (`_` isn't needed), and what is made.

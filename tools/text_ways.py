@@ -1,5 +1,5 @@
 #!/usr/bin/env python3
-"""Writes the machine that builds what printed texts are read as: text_ways.py, and then `rt fmt` in both crates
+"""Writes the machine that builds what printed texts are read as: text_ways.py, and then `rt fmt` in each of its crates
 
 Reads text_ways.desc.py (what each production is read as), the grammar that it names, and the signatures of the ways in code.
 Written into raw_values are
@@ -8,10 +8,16 @@ Written into raw_values are
     src/value.rt                           how it is held
     src/taking.rt, src/taking/*.rt         how it is taken off the stack
 
-and into raw_reader
+into raw_ways
 
     specs/Makes.antt                       what each production makes
-    src/made.rt, src/made/*.rt             the same in code, one function for those that do the same
+
+into raw_productions
+
+    src/*.rt                               the same in code, one function for those that do the same
+
+and into raw_reader
+
     src/building.rt, src/building/*.rt     which of them builds a part by its production
     proofs/building/*                      that these build the same
 
@@ -28,17 +34,18 @@ from grammar import Description  # noqa: E402
 from source_build import CRATES, TOKEN, snake  # noqa: E402
 
 NOTE = "Written by tools/text_ways.py."
-VALUES, READER = "raw_values", "raw_reader"
+VALUES, WAYS, PRODUCTIONS, READER = "raw_values", "raw_ways", "raw_productions", "raw_reader"
 
 # What source_build.py says in files of each crate, as these crates have it.
+BUILT = [("source_values.specs.Stacked.{CanBuild, IsBuilt}", f"{WAYS}.specs.Built.{{CanBuild, IsBuilt}}"),
+         ("source_values.specs.Stacked.{Stack, CanBuild", f"{WAYS}.specs.Built.{{Stack, CanBuild")]
 RENAMED = {
     "source_values": (VALUES, [("raw_values::", "crate::")]),
-    "source_builder": (READER, [("use crate::value::{Stack, Value}", "use raw_values::{Stack, Value}"), ("use crate::taking::", "use raw_values::taking::"),
-                                ("use source_ways::", "use crate::ways::"), ("use source_values::made::", "use crate::made::"),
-                                ("source_values.specs.Stacked.{CanBuild, IsBuilt}", "raw_reader.specs.Built.{CanBuild, IsBuilt}"),
-                                ("source_values.specs.Stacked.{Stack, CanBuild", "raw_reader.specs.Built.{Stack, CanBuild")]),
+    "source_ways": (WAYS, []),
+    PRODUCTIONS: (PRODUCTIONS, BUILT),
+    "source_builder": (READER, BUILT),
 }
-EVERYWHERE = [("source_grammar", "text_table"), ("source_values", VALUES), ("source_builder", READER),
+EVERYWHERE = [("source_grammar", "text_table"), ("source_values", VALUES), ("source_ways", WAYS), ("source_builder", READER),
               ("source_build.py", "text_ways.py"), (", with its extent: a variant", ": a variant")]
 
 
@@ -99,14 +106,12 @@ class Way:
 
 
 class TextMachine(source_build.Machine):
-    MADE_IN = "source_builder"
-    SEEN = {"taking": "pub ", "made": "pub(crate) "}
-
     def __init__(self):
         given = source_build.load("text_ways.desc.py")
         self.grammar = Description(os.path.join(HERE, given["GRAMMAR"]))
         self.imports, self.HELD, self.beside, self.listing = given["IMPORTS"], given["HELD"], {}, {}
         self.modules = {m: m for m in given["WAYS_IN"].split()}
+        self.stands_in = {section: PRODUCTIONS for section in given["KINDS"]}
         kinds = {subject: [tuple(x.strip() for x in line.split(" = ")) for line in lines.strip().split("\n")]
                  for subject, lines in given["KINDS"].items()}
         self.taking = {subject: [(name, carried, code) for name, code, carried, _ in rows] for subject, rows in kinds.items()}
@@ -126,8 +131,8 @@ class TextMachine(source_build.Machine):
     def read_signatures(self):
         self.signatures = {}
         for module in self.modules:
-            text = open(os.path.join(CRATES, READER, "src", "ways", module + ".rt"), encoding="utf-8").read()
-            for name, params, result in re.findall(r"^pub\(crate\) fn (\w+)\((.*?)\) -> (.*?)\n", text, re.M | re.S):
+            text = open(os.path.join(CRATES, WAYS, "src", module + ".rt"), encoding="utf-8").read()
+            for name, params, result in re.findall(r"^pub fn (\w+)\((.*?)\) -> (.*?)\n", text, re.M | re.S):
                 self.signatures[name] = (module, "alloc:" in params, result.startswith("Result"))
 
     def way(self, text, kinds, values):
@@ -147,7 +152,7 @@ class TextMachine(source_build.Machine):
 
     def write(self, crate, path, text):
         crate, renamed = RENAMED[crate]
-        for old, new in renamed + EVERYWHERE if crate == READER else EVERYWHERE + renamed:
+        for old, new in EVERYWHERE + renamed if crate == VALUES else renamed + EVERYWHERE:
             text = text.replace(old, new)
         super().write(crate, path, text)
 
@@ -197,7 +202,7 @@ use Rattle.text_table.specs.declared.terminal.Terminal.{{Terminal}}
 use Rattle.text_table.specs.declared.lexeme.Lexeme.{{Lexeme}}
 use Rattle.text_table.specs.Productions.{{productions}}
 use Rattle.{VALUES}.specs.Carriers.{{carrier}}
-use Rattle.{READER}.specs.Ways as ways
+use Rattle.{WAYS}.specs.Ways as ways
 
 abbrev pub makes : (n : Part) → Makes Terminal Part Lexeme carrier n (productions n)
 """
@@ -227,14 +232,13 @@ def write_makes(machine):
             bound = {name: "v" + ".1" * i + ".0" for i, name in enumerate(way.names)}
             body = f"((λ v. {spec(way.tree, bound)}), {body})"
         text += f"makes N.{part} = {body}\n"
-    machine.write("source_builder", "specs/Makes.antt", text + MADE)
+    machine.write("source_ways", "specs/Makes.antt", text + MADE)
 
 
 def main():
     # a lexeme that isn't needed is dropped where sources keep its place
     start, end = (source_build.TAKERS.index(x) for x in ("\n/// Takes a lexeme off of which", "\n/// Drops a value"))
     source_build.TAKERS = source_build.TAKERS[:start] + DROP_TOKEN + source_build.TAKERS[end:]
-    source_build.TAKERS = source_build.TAKERS.replace("pub(crate) fn take_token", "pub fn take_token")
     machine = TextMachine()
     write_carriers(machine)
     write_makes(machine)

@@ -6,19 +6,39 @@ use Rattle.aeneas.specs.Eval.{EvalReply}
 use Rattle.aeneas.specs.Parsed.{IsRunCommand, IsEvalCommand}
 use Rattle.aeneas.specs.declared.refusal.Refusal.TheVariants as R
 use Rattle.aeneas.specs.Refusals.{IsRefusal}
-use Rattle.aeneas.specs.Reply.{IsReply}
+use Rattle.aeneas.specs.Reply.{IsReply, CheckReply, TranslateReply}
 use Rattle.aeneas.specs.Run.{RunReply}
 use Rattle.aeneas.specs.Seen.{Seen, ReadsNothing}
-use Rattle.aeneas.specs.Words.{IsShort, IsRun, IsEval, HasNoForm, fuel_of}
+use Rattle.aeneas.specs.Words.{IsShort, IsCheck, IsTranslate, IsRun, IsEval, HasNoForm, fuel_of}
 
 -- words without a form
 pub misused : (words : List (List ℕ)) (s : Seen) (status : ℕ) (text : List ℕ) → HasNoForm words → ReadsNothing s → IsRefusal R.Usage status text → IsReply words s status text
 misused words s status text none unread h = record {
   usage = λ _. record { refusal = h; unread = unread };
+  check = λ f t. absurd (none.check f t);
   translate = λ f t. absurd (none.translate f t);
   run = λ f n w vs r. absurd (none.run f n w vs r);
   eval = λ f n w vs r. absurd (none.eval f n w vs r);
 }
+
+module _ (words : List (List ℕ)) (s : Seen) (file : List ℕ) (status : ℕ) (text : List ℕ) where
+  pub check_reply : IsCheck words file → CheckReply s file status text → IsReply words s status text
+  check_reply c h = record {
+    usage = λ none. absurd (none.check file c);
+    check = λ f t. (let e = sym c.words_are ∙ t.words_are in let a : file ≡ f = cc in subst (λ x. CheckReply s x status text) a h);
+    translate = λ f t. (let e = sym c.words_are ∙ t.words_are in absurd cc);
+    run = λ f n w vs r. (let e = sym c.words_are ∙ r.words_are in absurd cc);
+    eval = λ f n w vs r. (let e = sym c.words_are ∙ r.words_are in absurd cc);
+  }
+
+  pub translate_reply : IsTranslate words file → TranslateReply s file status text → IsReply words s status text
+  translate_reply c h = record {
+    usage = λ none. absurd (none.translate file c);
+    check = λ f t. (let e = sym c.words_are ∙ t.words_are in absurd cc);
+    translate = λ f t. (let e = sym c.words_are ∙ t.words_are in let a : file ≡ f = cc in subst (λ x. TranslateReply s x status text) a h);
+    run = λ f n w vs r. (let e = sym c.words_are ∙ r.words_are in absurd cc);
+    eval = λ f n w vs r. (let e = sym c.words_are ∙ r.words_are in absurd cc);
+  }
 
 module _ (words : List (List ℕ)) (s : Seen) (file name : List ℕ) (fuel : ℕ) (values : List (List ℕ)) (status : ℕ) (text : List ℕ) where
   run_same : (c : IsRunCommand words file name fuel values) → RunReply s file name values fuel status text →
@@ -46,6 +66,7 @@ module _ (words : List (List ℕ)) (s : Seen) (file name : List ℕ) (fuel : ℕ
   pub run_reply : IsRunCommand words file name fuel values → RunReply s file name values fuel status text → IsReply words s status text
   run_reply c h = record {
     usage = λ none. absurd (none.run file name c.word values c.run);
+    check = λ f t. (let e = sym c.run.words_are ∙ t.words_are in absurd cc);
     translate = λ f t. (let e = sym c.run.words_are ∙ t.words_are in absurd cc);
     run = λ f n w vs r. run_same c h f n w vs r;
     eval = λ f n w vs r. (let e = sym c.run.words_are ∙ r.words_are in absurd cc);
@@ -54,6 +75,7 @@ module _ (words : List (List ℕ)) (s : Seen) (file name : List ℕ) (fuel : ℕ
   pub eval_reply : IsEvalCommand words file name fuel values → EvalReply s file name values fuel status text → IsReply words s status text
   eval_reply c h = record {
     usage = λ none. absurd (none.eval file name c.word values c.eval);
+    check = λ f t. (let e = sym c.eval.words_are ∙ t.words_are in absurd cc);
     translate = λ f t. (let e = sym c.eval.words_are ∙ t.words_are in absurd cc);
     run = λ f n w vs r. (let e = sym c.eval.words_are ∙ r.words_are in absurd cc);
     eval = λ f n w vs r. eval_same c h f n w vs r;

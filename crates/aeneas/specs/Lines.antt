@@ -1,4 +1,4 @@
--- The lines of outcomes and answers (README.md, "Statuses").
+-- The lines of commands that are not refused (README.md, "Statuses").
 use Rattle.std.specs.Prelude.{ℕ, List, [], ◌∷◌, ◌++◌, codes}
 use Rattle.call_frame.specs.Written.{written}
 use Rattle.pure_ast.specs.Values.{PValue}
@@ -7,6 +7,11 @@ use Rattle.pure_ast.specs.Values.{PValue}
 abbrev pub line : List ℕ → List ℕ
 line text = text ++ 10 ∷ []
 
+-- a file that is a program
+abbrev pub accepted_line : List ℕ
+accepted_line = line (codes "accepted")
+
+-- of a call's outcome
 abbrev pub value_line : PValue → List ℕ
 value_line v = line (codes "value " ++ written v)
 

@@ -6,6 +6,11 @@ use Rattle.aen_base.specs.Decimals.{is_number, digits_value}
 abbrev pub IsShort : List ℕ → Type 0
 IsShort word = length word < 2 ^ 32
 
+-- the words are `check FILE`
+pub record IsCheck (words : List (List ℕ)) (file : List ℕ) : Type 0 where
+  pub words_are : words ≡ codes "check" ∷ file ∷ []
+  pub short : IsShort file
+
 -- the words are `translate FILE`
 pub record IsTranslate (words : List (List ℕ)) (file : List ℕ) : Type 0 where
   pub words_are : words ≡ codes "translate" ∷ file ∷ []
@@ -34,6 +39,7 @@ pub record IsEval (words : List (List ℕ)) (file name fuel : List ℕ) (values 
 
 -- the words have none of the forms
 pub record HasNoForm (words : List (List ℕ)) : Type 0 where
+  pub check : (file : List ℕ) → IsCheck words file → ⊥
   pub translate : (file : List ℕ) → IsTranslate words file → ⊥
   pub run : (file name fuel : List ℕ) (values : List (List ℕ)) → IsRun words file name fuel values → ⊥
   pub eval : (file name fuel : List ℕ) (values : List (List ℕ)) → IsEval words file name fuel values → ⊥

@@ -1,12 +1,14 @@
 ghost use Rattle.std.specs.Prelude.{◌≡◌, ◌<◌, ◌^◌, ◌↔◌, IsTrue, All, MatchOption, map};
 ghost use Rattle.std.specs.String.{string_bytes, string_len};
 ghost use Rattle.aeneas.specs.Words.{HasNoForm};
-ghost use Rattle.aeneas.specs.Parsed.{IsCommand, IsNoCall, IsCallOf};
+ghost use Rattle.aeneas.specs.Parsed.{IsCommand, IsNoFileForm, IsFileForm, IsNoCall, IsCallOf};
 
 use crate::fuel::fuel_number;
 
 /// A command, as its words give it.
 pub enum Command<'a> {
+    /// `check FILE`
+    Check(&'a str),
     /// `translate FILE`
     Translate(&'a str),
     /// `run FILE FN FUEL VALUE..`
@@ -32,9 +34,7 @@ fn form_of(words: &[String]) -> Option<Command<'_>>
     ensures { MatchOption result (HasNoForm (map string_bytes words.now)) (IsCommand (map string_bytes words.now)) }
 {
     match words {
-        [command, file] if command.as_str() == "translate" => {
-            Some(Command::Translate(file.as_str()))
-        }
+        [command, file] => file_form(command.as_str(), file.as_str()),
         [command, file, name, fuel, values @ ..] => call_form(
             command.as_str(),
             file.as_str(),
@@ -43,6 +43,19 @@ fn form_of(words: &[String]) -> Option<Command<'_>>
             values,
         ),
         _ => None,
+    }
+}
+
+/// The command of two words.
+fn file_form<'a>(command: &str, file: &'a str) -> Option<Command<'a>>
+    ensures { MatchOption result (IsNoFileForm command.now) (IsFileForm command.now file.now) }
+{
+    if command == "check" {
+        Some(Command::Check(file))
+    } else if command == "translate" {
+        Some(Command::Translate(file))
+    } else {
+        None
     }
 }
 

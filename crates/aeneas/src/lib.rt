@@ -1,6 +1,7 @@
 //! The program as one call: from the command's words, the files and a sink to the status.
 #![tactic(auto)]
 
+mod check_file;
 mod command;
 mod definition_word;
 mod eval_file;

@@ -5,6 +5,7 @@ ghost use Rattle.aeneas.specs.Refusals.{IsRefusal};
 ghost use Rattle.aeneas.specs.Reply.{IsReply};
 ghost use Rattle.aeneas.specs.Seen.{seen};
 
+use crate::check_file::check_file;
 use crate::command::{Command, command_of};
 use crate::eval_file::eval_file;
 use crate::refusal::Refusal;
@@ -51,6 +52,7 @@ pub fn reply_to<F: Files>(alloc: Global, words: &[String], files: &mut F) -> Res
 {
     match command_of(words) {
         None => refused(alloc, Refusal::Usage),
+        Some(Command::Check(file)) => check_file(alloc, files, file),
         Some(Command::Translate(file)) => translate_file(alloc, files, file),
         Some(Command::Run(file, name, fuel, values)) => {
             run_file(alloc, files, file, name, fuel, values)

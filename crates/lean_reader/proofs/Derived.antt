@@ -15,8 +15,8 @@ use Rattle.text_table.specs.declared.terminal.Terminal.{Terminal}
 use Rattle.text_table.specs.Lexemes.{takes}
 use Rattle.text_table.specs.Productions.{productions}
 use Rattle.raw_values.specs.Carriers.{carrier}
-use Rattle.raw_reader.specs.Makes.{made, makes}
-use Rattle.raw_reader.specs.Reading.{Reads}
+use Rattle.raw_ways.specs.Makes.{made, makes}
+use Rattle.raw_ways.specs.Reading.{Reads}
 
 abbrev Symbols : Type 0
 Symbols = List (Symbol Terminal Part)

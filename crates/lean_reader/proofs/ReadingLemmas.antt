@@ -21,7 +21,7 @@ use Rattle.text_syntax.specs.ProperTokens.{reading_lexed, unread}
 use Rattle.raw_ast.specs.declared.declarations.RawText.{RawText}
 use Rattle.raw_meaning.specs.Faults.{faults}
 use Rattle.raw_meaning.specs.Trees.{definitions}
-use Rattle.raw_reader.specs.Reading as raw
+use Rattle.raw_ways.specs.Reading as raw
 use Rattle.raw_forms.specs.TextForms.{text_formed}
 use Rattle.raw_soundness.specs.Readings.{BearsNames}
 use Rattle.raw_soundness.specs.Sound.{text_sound}

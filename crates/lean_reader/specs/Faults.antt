@@ -14,7 +14,7 @@ use Rattle.text_tokens.specs.Scan.{span}
 use Rattle.text_syntax.specs.Classing.{lexeme_of}
 use Rattle.raw_ast.specs.declared.declarations.RawText.{RawText}
 use Rattle.raw_meaning.specs.Faults.{faults}
-use Rattle.raw_reader.specs.Reading as raw
+use Rattle.raw_ways.specs.Reading as raw
 use Rattle.text_names.specs.Settled.{first}
 
 -- lexemes with their classes

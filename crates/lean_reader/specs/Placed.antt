@@ -9,7 +9,7 @@ use Rattle.raw_ast.specs.declared.declarations.RawText.{RawText}
 use Rattle.text_table.specs.declared.part.Part.TheVariants as N
 use Rattle.raw_meaning.specs.Faults.{faults}
 use Rattle.raw_meaning.specs.Trees.{definitions}
-use Rattle.raw_reader.specs.Reading as raw
+use Rattle.raw_ways.specs.Reading as raw
 use Rattle.text_names.specs.Settled.{first}
 use Rattle.lean_reader.specs.declared.read.LeanFault.{LeanFault}
 use Rattle.lean_reader.specs.declared.read.LeanFault.TheVariants.{Syntax, Limit, Memory}

@@ -28,8 +28,8 @@ use Rattle.raw_ast.specs.Atoms as a
 use Rattle.raw_ast.specs.Atoms.{RawAtom, rawatoms, rawatoms_list}
 use Rattle.raw_values.specs.declared.rests.AfterConstructor.{AfterConstructor}
 use Rattle.raw_values.specs.declared.rests.AfterConstructor.TheVariants as after
-use Rattle.raw_reader.specs.Ways.{spelled as spelling_of, bracketed}
-use Rattle.raw_reader.specs.Words.{is_true}
+use Rattle.raw_ways.specs.Ways.{spelled as spelling_of, bracketed}
+use Rattle.raw_ways.specs.Words.{is_true}
 use Rattle.raw_meaning.specs.declared.outline.Outline.{Outline}
 use Rattle.raw_meaning.specs.Faults.{atom_faults, atoms_faults}
 use Rattle.raw_meaning.specs.Numbers.{numbered, number_of}

@@ -24,7 +24,7 @@ use Rattle.raw_ast.specs.Code as c
 use Rattle.raw_ast.specs.Code.{RawCode, rawarms}
 use Rattle.raw_values.specs.declared.rests.Bound.{Bound}
 use Rattle.raw_values.specs.declared.rests.Bound.TheVariants as bound
-use Rattle.raw_reader.specs.Ways.{spelled as spelling_of, let_code}
+use Rattle.raw_ways.specs.Ways.{spelled as spelling_of, let_code}
 use Rattle.raw_meaning.specs.declared.outline.Outline.{Outline}
 use Rattle.raw_meaning.specs.Faults.{code_faults, arms_faults}
 use Rattle.raw_meaning.specs.Trees.{code_tree, arm_trees, both, three}

@@ -20,7 +20,7 @@ use Rattle.raw_ast.specs.declared.declarations.RawText.{RawText}
 use Rattle.raw_ast.specs.Atoms.{RawAtom}
 use Rattle.raw_ast.specs.Types.{RawType}
 use Rattle.raw_values.specs.Carriers.{carrier}
-use Rattle.raw_reader.specs.Reading.{Reads, IsRead, IsNotRead}
+use Rattle.raw_ways.specs.Reading.{Reads, IsRead, IsNotRead}
 use Rattle.raw_meaning.specs.Faults.{faults, type_faults, atom_faults}
 use Rattle.raw_meaning.specs.Heads.{declared_by}
 use Rattle.raw_meaning.specs.Trees.{definitions, type_tree, atom_tree}

@@ -17,7 +17,7 @@ use Rattle.text_table.specs.declared.terminal.Terminal.TheVariants as T
 use Rattle.raw_ast.specs.declared.names.Constructor.{Constructor}
 use Rattle.raw_ast.specs.declared.names.Constructor.TheVariants as C
 use Rattle.raw_ast.specs.declared.spelling.Spelling.{Spelling}
-use Rattle.raw_reader.specs.Ways.{spelled as spelling_of}
+use Rattle.raw_ways.specs.Ways.{spelled as spelling_of}
 use Rattle.raw_meaning.specs.declared.outline.Outline.{Outline}
 use Rattle.raw_meaning.specs.Lookups.{type_of, constructor_of}
 use Rattle.raw_meaning.specs.Rules as rule

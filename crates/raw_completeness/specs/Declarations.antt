@@ -18,7 +18,7 @@ use Rattle.raw_ast.specs.declared.declarations.Members.TheVariants as M
 use Rattle.raw_ast.specs.declared.declarations.Variant.{Variant}
 use Rattle.raw_ast.specs.declared.spelling.Spelling.{Spelling}
 use Rattle.raw_ast.specs.Types.{RawType}
-use Rattle.raw_reader.specs.Ways.{spelled as spelling_of}
+use Rattle.raw_ways.specs.Ways.{spelled as spelling_of}
 use Rattle.raw_meaning.specs.declared.outline.Outline.{Outline}
 use Rattle.raw_meaning.specs.Faults.{texts, variants_faults, fields_faults, members_faults, declarations_faults}
 use Rattle.raw_meaning.specs.Heads.{head_of_variant, head_of_type}

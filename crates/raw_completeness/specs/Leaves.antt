@@ -13,7 +13,7 @@ use Rattle.text_table.specs.declared.terminal.Terminal.{Terminal}
 use Rattle.text_table.specs.declared.terminal.Terminal.TheVariants as T
 use Rattle.text_table.specs.Lexemes.{has_class}
 use Rattle.text_syntax.specs.Classing.{class_of, class_of_word, class_of_number, text_of}
-use Rattle.raw_reader.specs.Words.{int_of}
+use Rattle.raw_ways.specs.Words.{int_of}
 use Rattle.raw_completeness.specs.Classes.{fits, fitting, is_the_word, is_the_number, name_taken, name_text, number_fits, variable_fits, loop_fits, back_fits, int_fits}
 use Rattle.raw_completeness.specs.Rows.{Taking}
 

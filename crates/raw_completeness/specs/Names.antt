@@ -17,7 +17,7 @@ use Rattle.text_table.specs.declared.terminal.Terminal.TheVariants as T
 use Rattle.raw_ast.specs.declared.names.DefinitionName.{DefinitionName}
 use Rattle.raw_ast.specs.declared.spelling.Spelling.{Spelling}
 use Rattle.raw_values.specs.declared.rests.NameEnd.{NameEnd}
-use Rattle.raw_reader.specs.Ways.{spelled as spelling_of}
+use Rattle.raw_ways.specs.Ways.{spelled as spelling_of}
 use Rattle.raw_meaning.specs.Numbers.{numbered}
 use Rattle.raw_meaning.specs.Outlines.{place_of, part_number, kind_by, kind_of}
 use Rattle.raw_meaning.specs.Rules.{unless, name_number, name_numbers}

@@ -15,7 +15,7 @@ use Rattle.text_table.specs.declared.part.Part.TheVariants as N
 use Rattle.text_table.specs.declared.terminal.Terminal.TheVariants as T
 use Rattle.raw_ast.specs.declared.spelling.Spelling.{Spelling}
 use Rattle.raw_ast.specs.Types.{RawType}
-use Rattle.raw_reader.specs.Ways.{spelled as spelling_of}
+use Rattle.raw_ways.specs.Ways.{spelled as spelling_of}
 use Rattle.raw_meaning.specs.declared.outline.Outline.{Outline}
 use Rattle.raw_meaning.specs.Faults.{texts, parameters_faults, fields_faults, values_faults}
 use Rattle.raw_meaning.specs.Numbers.{numbered}

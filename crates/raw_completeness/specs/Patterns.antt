@@ -22,7 +22,7 @@ use Rattle.raw_ast.specs.declared.names.Constructor.{Constructor}
 use Rattle.raw_ast.specs.declared.pattern.Pattern.{Pattern}
 use Rattle.raw_ast.specs.declared.pattern.Pattern.TheVariants as R
 use Rattle.raw_ast.specs.declared.spelling.Spelling.{Spelling}
-use Rattle.raw_reader.specs.Ways.{spelled as spelling_of}
+use Rattle.raw_ways.specs.Ways.{spelled as spelling_of}
 use Rattle.raw_meaning.specs.declared.outline.Outline.{Outline}
 use Rattle.raw_meaning.specs.Faults.{variables_faults, pattern_faults}
 use Rattle.raw_meaning.specs.Rules as rule

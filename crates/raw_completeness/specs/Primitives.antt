@@ -23,8 +23,8 @@ use Rattle.text_table.specs.declared.part.Part.TheVariants as N
 use Rattle.text_table.specs.declared.terminal.Terminal.TheVariants as T
 use Rattle.text_syntax.specs.Classing.{class_of, class_of_word}
 use Rattle.raw_ast.specs.declared.computation.Operation.{Operation}
-use Rattle.raw_reader.specs.Ways.{in_memory, replace_back as replace_back_of}
-use Rattle.raw_reader.specs.Words.{int_primitive, bool_primitive}
+use Rattle.raw_ways.specs.Ways.{in_memory, replace_back as replace_back_of}
+use Rattle.raw_ways.specs.Words.{int_primitive, bool_primitive}
 use Rattle.raw_completeness.specs.Classes.{fits, fitting, is_the_word}
 use Rattle.raw_completeness.specs.Leaves.{IsInt, ints, Any, back_zeros, back_ones}
 use Rattle.raw_completeness.specs.Rows.{Reading, done, fixed, leaf, last, produce}

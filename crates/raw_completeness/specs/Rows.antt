@@ -16,7 +16,7 @@ use Rattle.text_table.specs.Lexemes.{takes, has_class}
 use Rattle.text_syntax.specs.Among.{and_left, and_right}
 use Rattle.text_syntax.specs.Classing.{class_of, lexeme_of}
 use Rattle.raw_values.specs.Carriers.{carrier}
-use Rattle.raw_reader.specs.Makes.{made}
+use Rattle.raw_ways.specs.Makes.{made}
 use Rattle.raw_completeness.specs.Classes.{fits, fitting}
 
 -- ---- lexemes that stand for these tokens, and then these

@@ -20,7 +20,7 @@ use Rattle.raw_ast.specs.Types as t
 use Rattle.raw_ast.specs.Types.{RawType, rawtypes, rawtypes_list}
 use Rattle.raw_values.specs.declared.rests.AfterTypeName.{AfterTypeName}
 use Rattle.raw_values.specs.declared.rests.AfterTypeName.TheVariants as after
-use Rattle.raw_reader.specs.Ways.{spelled as spelling_of, after_name}
+use Rattle.raw_ways.specs.Ways.{spelled as spelling_of, after_name}
 use Rattle.raw_meaning.specs.declared.outline.Outline.{Outline}
 use Rattle.raw_meaning.specs.Faults.{type_faults, types_faults}
 use Rattle.raw_meaning.specs.Lookups.{type_of}

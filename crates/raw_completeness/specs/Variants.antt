@@ -22,7 +22,7 @@ use Rattle.raw_ast.specs.Types.{RawType}
 use Rattle.raw_values.specs.declared.rests.AfterName.{AfterName}
 use Rattle.raw_values.specs.declared.rests.AfterName.TheVariants as after
 use Rattle.raw_values.specs.declared.rests.VariantRest.{VariantRest}
-use Rattle.raw_reader.specs.Ways.{spelled as spelling_of, name_first}
+use Rattle.raw_ways.specs.Ways.{spelled as spelling_of, name_first}
 use Rattle.raw_meaning.specs.declared.outline.Outline.{Outline}
 use Rattle.raw_meaning.specs.Faults.{type_faults, texts, variant_faults, variants_faults}
 use Rattle.raw_meaning.specs.Heads.{head_of_variant}

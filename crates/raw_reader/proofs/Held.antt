@@ -12,8 +12,8 @@ use Rattle.raw_values.specs.declared.value.Value.{Value}
 use Rattle.raw_values.specs.declared.value.Value.TheVariants as V
 use Rattle.raw_values.specs.Carriers.{carrier, held}
 use Rattle.raw_values.specs.Stacked.{Is}
-use Rattle.raw_reader.specs.Makes.{made}
-use Rattle.raw_reader.specs.Reading.{Reads, IsRead}
+use Rattle.raw_ways.specs.Makes.{made}
+use Rattle.raw_ways.specs.Reading.{Reads, IsRead}
 
 abbrev IsReadHeld : Part → List Lexeme → Value → Type 0
 IsReadHeld n ls value = IsReadAs takes carrier made held n ls value

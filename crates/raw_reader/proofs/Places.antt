@@ -5,7 +5,7 @@ use Rattle.aen_base.specs.declared.memory.NoMem.{NoMem}
 use Rattle.text_table.specs.declared.part.Part.{Part}
 use Rattle.raw_values.specs.declared.value.Value.{Value}
 use Rattle.raw_values.specs.Stacked.{Stack}
-use Rattle.raw_reader.specs.Built.{CanBuild, IsBuilt}
+use Rattle.raw_ways.specs.Built.{CanBuild, IsBuilt}
 
 pub at_place : (n : Part) (i j : ℕ) (stack : Stack) → i ≡ j → CanBuild n i stack → CanBuild n j stack
 at_place n i j stack e h = subst (λ (k : ℕ). CanBuild n k stack) e h

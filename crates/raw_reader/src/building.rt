@@ -8,7 +8,7 @@ mod primitives;
 mod types;
 
 ghost use Rattle.std.specs.Prelude.{◌≡◌, reverse, IfOk};
-ghost use Rattle.raw_reader.specs.Built.{CanBuild, IsBuilt};
+ghost use Rattle.raw_ways.specs.Built.{CanBuild, IsBuilt};
 
 use aen_base::NoMem;
 use raw_values::{Stack, Value};

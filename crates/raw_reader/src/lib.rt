@@ -2,11 +2,8 @@
 #![tactic(auto)]
 
 mod building;
-mod made;
 mod reader;
 mod reading;
-mod ways;
-mod words;
 
 pub use reader::TextReader;
 pub use reading::{read_atom, read_text, read_type};

@@ -46,8 +46,8 @@ impl Grammar for TextReader {
 
 impl Builds for TextReader {
     ghost use Rattle.raw_values.specs.Carriers as carriers;
-    ghost use Rattle.raw_reader.specs.Made as made_of;
-    ghost use Rattle.raw_reader.specs.Makes as makes;
+    ghost use Rattle.raw_ways.specs.Made as made_of;
+    ghost use Rattle.raw_ways.specs.Makes as makes;
 
     type Value = Value;
 

@@ -2,7 +2,7 @@
 
 ghost use Rattle.std.specs.Prelude.{IfOk, MatchResult, ⊤};
 ghost use Rattle.text_table.specs.declared.part.Part.TheVariants as N;
-ghost use Rattle.raw_reader.specs.Reading.{IsRead, IsNotRead, IsFault};
+ghost use Rattle.raw_ways.specs.Reading.{IsRead, IsNotRead, IsFault};
 
 use crate::reader::TextReader;
 use aen_base::NoMem;

@@ -3,8 +3,8 @@ use Rattle.std.specs.Prelude.{refl}
 use Rattle.std.proofs.Common.{inl, inr}
 use Rattle.text_table.specs.declared.part.Part.{Part}
 use Rattle.text_table.specs.declared.part.Part.TheVariants as N
-use Rattle.raw_reader.specs.Makes.{made}
-use Rattle.raw_reader.specs.Ways as ways
+use Rattle.raw_ways.specs.Makes.{made}
+use Rattle.raw_ways.specs.Ways as ways
 use Rattle.raw_soundness.specs.Readings.{IsKept, OfEach}
 use Rattle.raw_soundness.specs.Shaping.{two_or_more, product_shaped, tuple_shaped, unit_shaped, name_first_shaped, after_type_shaped, bracketed_shaped, let_shaped, int_operation_shaped, cast_shaped, memory_shaped, replace_shaped, swap_shaped}
 

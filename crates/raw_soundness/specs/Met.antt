@@ -17,7 +17,7 @@ use Rattle.text_table.specs.Lexemes.{has_class}
 use Rattle.text_syntax.specs.Among.{each_class}
 use Rattle.text_syntax.specs.Classing.{class_of, lexeme_of}
 use Rattle.text_syntax.specs.Standing.{word_stands, one_word_stands, token_some_word, is_id, is_digits, zero_stands, one_stands, mark_stands}
-use Rattle.raw_reader.specs.Words.{int_of, is_true}
+use Rattle.raw_ways.specs.Words.{int_of, is_true}
 use Rattle.raw_meaning.specs.Wants.{Meets, truth_word}
 use Rattle.raw_soundness.specs.Symbols.{want_of}
 

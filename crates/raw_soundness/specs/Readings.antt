@@ -21,8 +21,8 @@ use Rattle.text_table.specs.Lexemes.{takes, has_class}
 use Rattle.text_syntax.specs.Classing.{class_of, lexeme_of, text_of}
 use Rattle.text_syntax.specs.Standing.{is_id}
 use Rattle.raw_values.specs.Carriers.{carrier}
-use Rattle.raw_reader.specs.Makes.{made}
-use Rattle.raw_reader.specs.Reading.{Reads}
+use Rattle.raw_ways.specs.Makes.{made}
+use Rattle.raw_ways.specs.Reading.{Reads}
 use Rattle.raw_meaning.specs.Wants.{Wants, Meets}
 use Rattle.raw_soundness.specs.BareNames.{bare_name}
 use Rattle.raw_soundness.specs.Met.{met}

@@ -26,8 +26,8 @@ use Rattle.raw_values.specs.declared.rests.AfterTypeName.{AfterTypeName}
 use Rattle.raw_values.specs.declared.rests.AfterTypeName.TheVariants as after_type
 use Rattle.raw_values.specs.declared.rests.Bound.{Bound}
 use Rattle.raw_values.specs.declared.rests.Bound.TheVariants as bound
-use Rattle.raw_reader.specs.Ways as ways
-use Rattle.raw_reader.specs.Words.{int_of, int_primitive}
+use Rattle.raw_ways.specs.Ways as ways
+use Rattle.raw_ways.specs.Words.{int_of, int_primitive}
 use Rattle.raw_meaning.specs.Shape.{IsShapedType, AreShapedTypes, IsShapedAtom, AreShapedAtoms, IsShapedCode}
 use Rattle.raw_soundness.specs.Shapes.{IsTypeInBrackets, IsAtomInBrackets, IsCast, IsReplaceBack, IsSwapBack, IsInMemory, IsShapedAfterName, IsShapedAfterType, IsShapedAfterConstructor, IsShapedBound, IsShapedEnd}
 

@@ -18,7 +18,7 @@ use Rattle.raw_ast.specs.declared.declarations.RawText.{RawText}
 use Rattle.raw_ast.specs.Atoms.{RawAtom}
 use Rattle.raw_ast.specs.Types.{RawType}
 use Rattle.raw_values.specs.Carriers.{carrier}
-use Rattle.raw_reader.specs.Reading.{Reads}
+use Rattle.raw_ways.specs.Reading.{Reads}
 use Rattle.raw_meaning.specs.declared.outline.Outline.{Outline}
 use Rattle.raw_meaning.specs.Faults.{type_names, declarations_faults, definitions_faults, faults}
 use Rattle.raw_meaning.specs.HeadLemmas.{declared}

@@ -2,7 +2,7 @@
 use Rattle.std.specs.Prelude.{refl}
 use Rattle.text_table.specs.declared.part.Part.{Part}
 use Rattle.text_table.specs.declared.part.Part.TheVariants as N
-use Rattle.raw_reader.specs.Makes.{made}
+use Rattle.raw_ways.specs.Makes.{made}
 use Rattle.raw_soundness.specs.Readings.{IsSpelled, OfEach}
 use Rattle.raw_soundness.specs.Spelling.{name_first_spelled, type_in_brackets, after_type_spelled, name_part_spelled, let_spelled, int_operation_spelled, bool_operation_spelled, cast_spelled, memory_spelled, replace_spelled, swap_spelled, swap_end_spelled, replace_back_spelled, swap_zero_spelled, swap_one_spelled, atom_in_brackets, exit_spelled, bracketed_spelled}
 

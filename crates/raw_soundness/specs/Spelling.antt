@@ -33,8 +33,8 @@ use Rattle.raw_values.specs.declared.rests.AfterTypeName.TheVariants as after_ty
 use Rattle.raw_values.specs.declared.rests.Bound.{Bound}
 use Rattle.raw_values.specs.declared.rests.Bound.TheVariants as bound
 use Rattle.raw_values.specs.declared.rests.NameEnd.{NameEnd}
-use Rattle.raw_reader.specs.Ways as ways
-use Rattle.raw_reader.specs.Words.{int_of, int_primitive, bool_primitive}
+use Rattle.raw_ways.specs.Ways as ways
+use Rattle.raw_ways.specs.Words.{int_of, int_primitive, bool_primitive}
 use Rattle.raw_meaning.specs.Wants as w
 use Rattle.raw_meaning.specs.Wants.{Wants, fixed, numbered, says, marks, type_wants, atom_wants, constructor_wants, code_wants, name_part_wants}
 use Rattle.raw_soundness.specs.Shapes.{IsTypeInBrackets, IsAtomInBrackets, IsExit, HasEnd, IsCast, IsReplaceBack, IsSwapBack, IsInMemory, IsShapedAfterType, IsShapedAfterConstructor, IsShapedEnd}

@@ -28,7 +28,7 @@ use Rattle.raw_values.specs.declared.rests.Bound.TheVariants as bound
 use Rattle.raw_values.specs.declared.rests.NameEnd.{NameEnd}
 use Rattle.raw_values.specs.declared.rests.VariantRest.{VariantRest}
 use Rattle.raw_values.specs.Carriers.{carrier}
-use Rattle.raw_reader.specs.Words.{int_of, is_true}
+use Rattle.raw_ways.specs.Words.{int_of, is_true}
 use Rattle.raw_meaning.specs.Wants as w
 use Rattle.raw_meaning.specs.Wants.{Want, fixed, digits, numbered, Wants, marks, truth_word, type_wants, types_wants, times_wants, constructor_wants, atom_wants, atoms_wants, comma_wants, computation_wants, code_wants, arms_wants, name_part_wants, plain_fields_wants}
 

@@ -1,13 +1,10 @@
 //! How tokens of the grammar take lexemes.
 
 ghost use Rattle.std.specs.Prelude.{◌≡◌};
-ghost use Rattle.std.specs.List.{list_any};
-ghost use denote.Enum.Bare.{sameb};
-ghost use Rattle.source_grammar.specs.contracts.class.Class.{the_type};
 ghost use Rattle.source_grammar.specs.Lexemes as spec;
 
 use crate::class::Class;
-use crate::classes::classes_of;
+use crate::classes::has_class;
 use crate::lexeme::{Content, Lexeme};
 use crate::terminal::Terminal;
 use aen_base::Span;
@@ -17,7 +14,7 @@ use table_reader::Take;
 pub(crate) fn taken(terminal: Terminal, lexeme: &Lexeme) -> Take<Lexeme>
     ensures { result ≡ spec.takes terminal lexeme.now }
 {
-    if !is_among(classes_of(terminal), lexeme.class) {
+    if !has_class(terminal, lexeme.class) {
         return Take::No;
     }
     if terminal == Terminal::TypesEnd {
@@ -25,18 +22,6 @@ pub(crate) fn taken(terminal: Terminal, lexeme: &Lexeme) -> Take<Lexeme>
     } else {
         Take::Whole
     }
-}
-
-/// Whether a class is one of these.
-fn is_among(classes: &[Class], class: Class) -> bool
-    ensures { result ≡ list_any (sameb the_type class) classes.now }
-{
-    for one in classes {
-        if class == *one {
-            return true;
-        }
-    }
-    false
 }
 
 /// How the end of a list of types takes a lexeme that begins with `>`.

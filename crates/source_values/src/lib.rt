@@ -1,8 +1,7 @@
-//! The values of the parts of a source, and what its productions build of them.
+//! The values of the parts of a source, and how they are taken off a stack.
 #![tactic(auto)]
 
-pub mod made;
-mod taking;
+pub mod taking;
 mod value;
 
 pub use taking::{held_items, held_writtens};

@@ -1,11 +1,11 @@
 //! Values of symbols, taken off the stack. Written by tools/source_build.py.
 
-pub(crate) mod blocks;
-pub(crate) mod expressions;
-pub(crate) mod items;
-pub(crate) mod paths;
-pub(crate) mod patterns;
-pub(crate) mod types;
+pub mod blocks;
+pub mod expressions;
+pub mod items;
+pub mod paths;
+pub mod patterns;
+pub mod types;
 
 ghost use Rattle.std.specs.Prelude.{◌≡◌, ◌∷◌, reverse};
 ghost use Rattle.table_reader.specs.declared.item.Item.TheVariants as I;
@@ -22,7 +22,7 @@ use source_ways::spanned::Spanned;
 
 /// Takes a lexeme off.
 #[tactic(auto, using(crate::proofs::Newest::popped))]
-pub(crate) fn take_token(values: &mut Stack) -> Lexeme
+pub fn take_token(values: &mut Stack) -> Lexeme
     requires { HasToken (reverse values.old) }
     ensures { reverse values.old ≡ I.Token result ∷ reverse values.new }
 {
@@ -39,7 +39,7 @@ pub(crate) fn take_token(values: &mut Stack) -> Lexeme
 }
 
 /// Takes a lexeme off of which only its place counts.
-pub(crate) fn take_mark(values: &mut Stack) -> Span
+pub fn take_mark(values: &mut Stack) -> Span
     requires { HasToken (reverse values.old) }
     ensures { HasMark (reverse values.old) result (reverse values.new) }
 {

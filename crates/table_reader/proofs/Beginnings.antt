@@ -16,7 +16,7 @@ use Rattle.table_reader.specs.Machine.{IsAt, first_place, is_empty}
 use Rattle.table_reader.proofs.Heads as Heads
 use Rattle.table_reader.proofs.Heads.{left_of, right_of}
 
-append_nil : {A : Type 0} (xs : List A) → xs ++ [] ≡ xs
+pub append_nil : {A : Type 0} (xs : List A) → xs ++ [] ≡ xs
 append_nil [] = refl
 append_nil {A} (x ∷ xs) = ap (λ (ys : List A). x ∷ ys) (append_nil xs)
 

@@ -1,5 +1,5 @@
 -- What is read leads from a part to its value, and each production on the way is forced.
-use Rattle.std.proofs.Common.{◌≡◌, refl, ap, subst, ℕ, zero, suc, false, List, [], ◌∷◌, ◌++◌, map, Option, Some, None}
+use Rattle.std.proofs.Common.{◌≡◌, refl, ap, subst, ℕ, zero, suc, List, [], ◌∷◌, ◌++◌, map, Option, Some, None}
 use Rattle.table_reader.specs.declared.coming.Coming.{Coming}
 use Rattle.table_reader.specs.declared.coming.Coming.TheVariants as C
 use Rattle.table_reader.specs.declared.item.Item.{Item}
@@ -169,14 +169,6 @@ module _ {T N L V : Type 0} (takes : T → L → Take L) (carrier : N → Type 0
 
           pub part_must : empty_place n ≡ None → Leads (C.Part n ∷ rest) values (l ∷ ls) last → ⊥
           part_must e (M.part m j at h) = must_by e m.symbols j (made_at n m j at) h
-
-          firm_by : has_empty (productions n) ≡ false → (p : List (Symbol T N)) (j : ℕ) → IsAt p j (productions n) → Leads (map coming p ++ C.Over n j ∷ rest) values (l ∷ ls) last → ⊥
-          firm_by e [] j at h = let f = Completeness.empty_complete takes productions rank weight fits (productions n) (one_of_at [] j (productions n) at) in cc
-          firm_by e (s ∷ p) j at h = let f = begun_some n j s p (symbols rest) l ls at (derived n (s ∷ p) j rest values (l ∷ ls) last h) in cc
-
-          -- a part that is never empty begins with it
-          pub firm_begins : has_empty (productions n) ≡ false → Leads (C.Part n ∷ rest) values (l ∷ ls) last → ⊥
-          firm_begins e (M.part m j at h) = firm_by e m.symbols j (made_at n m j at) h
 
         -- at the end
         ends_by : (i : ℕ) → empty_place n ≡ Some i → (p : List (Symbol T N)) (j : ℕ) → IsAt p j (productions n) → Leads (map coming p ++ C.Over n j ∷ rest) values [] last →

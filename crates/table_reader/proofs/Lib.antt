@@ -10,6 +10,7 @@ pub mod Pieces
 pub mod Readings
 pub mod Unique
 pub mod Leading
-pub mod Entering
+pub mod Ways
+mod Entering
 pub mod Turning
 pub mod Whole

@@ -148,9 +148,27 @@ module _ {T N L V : Type 0} (takes : T → L → Take L) (carrier : N → Type 0
             (Leading.part_skips takes carrier made held productions same rank weight fits n rest values last l ls b i e (f.leads ls last g));
       }
 
-  pub skip_follows : (a : ToCome) (va : Values) (l : L) (n : N) (rest : ToCome) (values new : Values) → begun takes productions rank n l ≡ None →
+  skip_follows : (a : ToCome) (va : Values) (l : L) (n : N) (rest : ToCome) (values new : Values) → begun takes productions rank n l ≡ None →
       MatchOption (empty_place productions n) ⊥ (λ i. Builds n i values new) → Follows a va l (C.Part n ∷ rest) values (l ∷ []) → Follows a va l rest new (l ∷ [])
   skip_follows a va l n rest values new b h f = skip_by a va l n rest values new (empty_place productions n) refl b h f
+
+  -- a part that was entered, or does not begin with the lexeme and is left as it was
+  abbrev Enters : N → ToCome → ToCome → L → Option T → Type 0
+  Enters n old new l o =
+      MatchOption o ((begun takes productions rank n l ≡ None) × (new ≡ old)) (λ t. (values : Values) → Follows (C.Part n ∷ reverse old) values l (C.Token t ∷ reverse new) values (l ∷ []))
+
+  pub enters_some : (n : N) (old new : ToCome) (l : L) (o : Option T) (t : T) → o ≡ Some t → Enters n old new l o → (values : Values) →
+      Follows (C.Part n ∷ reverse old) values l (C.Token t ∷ reverse new) values (l ∷ [])
+  enters_some n old new l o t e h = subst (λ (p : Option T). Enters n old new l p) e h
+
+  pub enters_none : (n : N) (old new : ToCome) (l : L) (o : Option T) → o ≡ None → Enters n old new l o → (begun takes productions rank n l ≡ None) × (new ≡ old)
+  enters_none n old new l o e h = subst (λ (p : Option T). Enters n old new l p) e h
+
+  pub skips : (a : ToCome) (va : Values) (l : L) (n : N) (old mid : ToCome) (values new : Values) (o : Option T) → o ≡ None → Enters n old mid l o →
+      MatchOption (empty_place productions n) ⊥ (λ i. Builds n i values new) → Follows a va l (C.Part n ∷ reverse old) values (l ∷ []) → Follows a va l (reverse mid) new (l ∷ [])
+  skips a va l n old mid values new o e h b f =
+      let none = enters_none n old mid l o e h in
+      subst (λ (s : ToCome). Follows a va l (reverse s) new (l ∷ [])) (sym none.1) (skip_follows a va l n (reverse old) values new none.0 b f)
 
   -- at the end
   pub end_can : (n : N) (rest : ToCome) (values last : Values) → Leads (C.Part n ∷ rest) values [] last → MatchOption (empty_place productions n) ⊥ (λ i. CanBuild n i values)

@@ -55,6 +55,35 @@ begins takes productions d ps l = list_any (λ t. accepts (takes t l)) (heads pr
 abbrev pub begun : {T N L : Type 0} → (T → L → Take L) → (N → List (List (Symbol T N))) → ℕ → N → L → Option ℕ
 begun takes productions rank n l = first_place (λ p. begins takes productions rank (p ∷ []) l) (productions n)
 
+-- this place and then the way, where there is one; else another way
+abbrev pub through : ℕ → Option (List ℕ) → Option (List ℕ) → Option (List ℕ)
+through i None other = other
+through i (Some ways) other = Some (i ∷ ways)
+
+-- the way down to the token that takes a lexeme, through leading parts of so much less rank: the place of the
+-- production that goes on with the lexeme, then its place in the part that this one begins with, and so on; the
+-- first of these productions stands in place i
+abbrev pub way : {T N L : Type 0} → (T → L → Take L) → (N → List (List (Symbol T N))) → ℕ → ℕ → List (List (Symbol T N)) → L → Option (List ℕ)
+way takes productions d i [] l = None
+way takes productions d i ([] ∷ ps) l = way takes productions d (suc i) ps l
+way takes productions d i ((S.Token t ∷ p) ∷ ps) l = through i (if accepts (takes t l) then Some [] else None) (way takes productions d (suc i) ps l)
+way takes productions zero i ((S.Part n ∷ p) ∷ ps) l = way takes productions zero (suc i) ps l
+way takes productions (suc d) i ((S.Part n ∷ p) ∷ ps) l = through i (way takes productions d 0 (productions n) l) (way takes productions (suc d) (suc i) ps l)
+
+-- the way after the place of a production
+abbrev pub way_by : {T N L : Type 0} → (T → L → Take L) → (N → List (List (Symbol T N))) → ℕ → List (Symbol T N) → L → Option (List ℕ)
+way_by takes productions d [] l = None
+way_by takes productions d (S.Token t ∷ p) l = if accepts (takes t l) then Some [] else None
+way_by takes productions zero (S.Part n ∷ p) l = None
+way_by takes productions (suc d) (S.Part n ∷ p) l = way takes productions d 0 (productions n) l
+
+-- a way, if there is one, comes before what stood there
+abbrev pub Finds : Option (List ℕ) → Bool → List ℕ → List ℕ → Type 0
+Finds None true old new = ⊥
+Finds None false old new = new ≡ old
+Finds (Some ways) true old new = new ≡ ways ++ old
+Finds (Some ways) false old new = ⊥
+
 -- a production that is not empty stands in this place
 pub record HasFirst {T N : Type 0} (productions : N → List (List (Symbol T N))) (n : N) (i : ℕ) : Type 0 where
   pub first : Symbol T N
@@ -83,11 +112,6 @@ module _ {T N L V : Type 0} (takes : T → L → Take L) (carrier : N → Type 0
     pub others : List L
     pub last : List (Item L V)
     pub leads : Leads to_come values (l ∷ others) last
-
-  -- with some values
-  pub record CanEnter (to_come : List (Coming T N)) (l : L) : Type 0 where
-    pub values : List (Item L V)
-    pub can : CanTake to_come values l
 
   -- with these values, nothing more leads to the value of a part
   pub record CanFinish (to_come : List (Coming T N)) (values : List (Item L V)) : Type 0 where

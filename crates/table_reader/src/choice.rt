@@ -1,63 +1,56 @@
 //! Which production of a part goes on.
 
-ghost use Rattle.std.specs.Prelude.{◌≡◌, [], ◌∷◌, ◌<◌, length};
+ghost use Rattle.std.specs.Prelude.{◌≡◌, ◌<◌, length, reverse, IfOk};
 ghost use Rattle.table_reader.specs.Conditions.{accepts};
 ghost use Rattle.table_reader.specs.Derivations.{rows};
 ghost use Rattle.table_reader.specs.Machine as machine;
-ghost use Rattle.table_reader.specs.Machine.{IsAt};
+ghost use Rattle.table_reader.specs.Machine.{Finds, IsAt};
 
 use crate::grammar::Grammar;
 use crate::symbol::{Production, Symbol};
 use crate::take::Take;
+use aen_base::{List, NoMem};
 
-/// The place of the production of a part that begins with a lexeme.
-pub(crate) fn begun<G: Grammar>(part: G::Part, lexeme: &G::Lexeme) -> Option<usize>
-    ensures { result ≡ machine.begun G.takes G.productions G.rank part lexeme.now }
+/// Puts the way down from a part there to the token that takes a lexeme: the places of productions, of
+/// the part itself newest. Tells whether there is one; where there is none, nothing is put. Parts that
+/// begin productions are of less rank.
+#[cycle(finding)]
+pub(crate) fn find<G: Grammar>(
+    ways: &mut List<usize>,
+    rank: usize,
+    part: G::Part,
+    lexeme: &G::Lexeme,
+) -> Result<bool, NoMem>
+    ensures { IfOk result (λ found. Finds (machine.way G.takes G.productions rank 0 (G.productions part) lexeme.now) found (reverse ways.old) (reverse ways.new)) }
 {
     let productions = G::productions(part);
     for (place, production) in productions.iter().enumerate() {
-        if begins::<G>(G::rank(), production.symbols, lexeme) {
-            return Some(place);
+        if find_by::<G>(ways, rank, production.symbols, lexeme)? {
+            ways.push(place)?;
+            return Ok(true);
         }
     }
-    None
+    Ok(false)
 }
 
-/// Whether a lexeme is taken by a token that a production begins with, through leading parts of so
-/// much less rank.
-#[cycle(beginnings)]
-fn begins<G: Grammar>(
+/// The same by one production, whose place is not put.
+#[cycle(finding)]
+fn find_by<G: Grammar>(
+    ways: &mut List<usize>,
     rank: usize,
     symbols: &[Symbol<G::Terminal, G::Part>],
     lexeme: &G::Lexeme,
-) -> bool
-    ensures { result ≡ machine.begins G.takes G.productions rank (symbols.now ∷ []) lexeme.now }
+) -> Result<bool, NoMem>
+    ensures { IfOk result (λ found. Finds (machine.way_by G.takes G.productions rank symbols.now lexeme.now) found (reverse ways.old) (reverse ways.new)) }
 {
     match symbols {
-        [] => false,
-        [Symbol::Token(terminal), ..] => is_taken::<G>(*terminal, lexeme),
+        [] => Ok(false),
+        [Symbol::Token(terminal), ..] => Ok(is_taken::<G>(*terminal, lexeme)),
         [Symbol::Part(part), ..] => match rank.checked_sub(1) {
-            None => false,
-            Some(less) => some_begin::<G>(less, G::productions(*part), lexeme),
+            None => Ok(false),
+            Some(less) => find::<G>(ways, less, *part, lexeme),
         },
     }
-}
-
-/// Whether one of these productions begins so.
-#[cycle(beginnings)]
-fn some_begin<G: Grammar>(
-    rank: usize,
-    productions: &[Production<G::Terminal, G::Part>],
-    lexeme: &G::Lexeme,
-) -> bool
-    ensures { result ≡ machine.begins G.takes G.productions rank (rows productions.now) lexeme.now }
-{
-    for production in productions {
-        if begins::<G>(rank, production.symbols, lexeme) {
-            return true;
-        }
-    }
-    false
 }
 
 /// Whether a token takes a lexeme or its front.

@@ -7,14 +7,14 @@ ghost use Rattle.table_reader.specs.declared.item.Item.TheVariants as I;
 ghost use Rattle.table_reader.specs.declared.symbol.Symbol.{Symbol};
 ghost use Rattle.table_reader.specs.declared.symbol.Symbol.TheVariants as S;
 ghost use Rattle.table_reader.specs.Building.{CanBuild, MakesBy};
-ghost use Rattle.table_reader.specs.Conditions.{accepts, firm};
+ghost use Rattle.table_reader.specs.Conditions.{accepts};
 ghost use Rattle.table_reader.specs.Derivations.{Derives, IsFault};
 ghost use Rattle.table_reader.specs.Machine as machine;
-ghost use Rattle.table_reader.specs.Machine.{IsAt, IsReached, Leads, CanTake, CanEnter, CanFinish, HasFirst, Follows, TakesToken, symbols, left_over};
+ghost use Rattle.table_reader.specs.Machine.{IsAt, IsReached, Leads, CanTake, CanFinish, HasFirst, Follows, TakesToken, symbols, left_over};
 ghost use Rattle.table_reader.specs.Reading.{IsReadAs, IsNotRead};
 
 use crate::builds::Builds;
-use crate::choice::{begun, empty_place, symbols_at};
+use crate::choice::{empty_place, find, symbols_at};
 use crate::coming::Coming;
 use crate::item::Item;
 use crate::recognizer::grammar_fault;
@@ -95,14 +95,16 @@ fn turn<G: Builds>(
                 let left = take_token::<G>(alloc, values, terminal, lexeme)?;
                 return Ok(left);
             }
-            Coming::Part(part) => match begun::<G>(part, lexeme) {
-                Some(place) => {
-                    let terminal = enter::<G>(coming, G::rank(), part, place, lexeme)?;
-                    let left = take_token::<G>(alloc, values, terminal, lexeme)?;
-                    return Ok(left);
+            Coming::Part(part) => {
+                let entered = enter::<G>(alloc, coming, part, lexeme)?;
+                match entered {
+                    Some(terminal) => {
+                        let left = take_token::<G>(alloc, values, terminal, lexeme)?;
+                        return Ok(left);
+                    }
+                    None => skip::<G>(alloc, values, part)?,
                 }
-                None => skip::<G>(alloc, values, part)?,
-            },
+            }
             Coming::Over(part, index) => over::<G>(alloc, values, part, index)?,
         }
     }
@@ -133,34 +135,30 @@ fn take_token<G: Builds>(
     }
 }
 
-/// Puts what is to come of a part there that begins with a lexeme, by its production in this place,
-/// and gives the token that takes the lexeme. Parts that begin productions are of less rank.
+/// Puts what is to come of a part there that begins with a lexeme, and gives the token that takes the
+/// lexeme. Where the part does not begin with it, all is as before. The way down to the token is found
+/// once, before any of its parts is opened.
 fn enter<G: Builds>(
+    alloc: Global,
     coming: &mut List<Coming<G::Terminal, G::Part>>,
-    rank: usize,
     part: G::Part,
-    place: usize,
     lexeme: &G::Lexeme,
-) -> Result<G::Terminal, NoMem>
-    requires firm { firm G.productions rank (G.productions part) ≡ true }
-    requires begun { machine.begun G.takes G.productions G.rank part lexeme.now ≡ Some place }
-    requires reached { IsReached G.productions (S.Part part ∷ symbols (reverse coming.old)) }
-    requires can { CanEnter G.takes G.carrier G.made G.held (C.Part part ∷ reverse coming.old) lexeme.now }
-    ensures { IfOk result (λ terminal. (values : List (Item G.Lexeme G.Value)) → Follows G.takes G.carrier G.made G.held G.productions (C.Part part ∷ reverse coming.old) values lexeme.now (C.Token terminal ∷ reverse coming.new) values (lexeme.now ∷ [])) }
+) -> Result<Option<G::Terminal>, NoMem>
+    requires { IsReached G.productions (S.Part part ∷ symbols (reverse coming.old)) }
+    ensures { IfOk result (λ o. MatchOption o ((machine.begun G.takes G.productions G.rank part lexeme.now ≡ None) × (coming.new ≡ coming.old)) (λ terminal. (values : List (Item G.Lexeme G.Value)) → Follows G.takes G.carrier G.made G.held G.productions (C.Part part ∷ reverse coming.old) values lexeme.now (C.Token terminal ∷ reverse coming.new) values (lexeme.now ∷ []))) }
 {
-    match open::<G>(coming, part, place)? {
-        Symbol::Token(terminal) => Ok(terminal),
-        Symbol::Part(next) => {
-            let Some(less) = rank.checked_sub(1) else {
-                unreachable!()
-            };
-            let Some(place) = begun::<G>(next, lexeme) else {
-                unreachable!()
-            };
-            let terminal = enter::<G>(coming, less, next, place, lexeme)?;
-            Ok(terminal)
+    let mut ways = List::new(alloc);
+    if !find::<G>(&mut ways, G::rank(), part, lexeme)? {
+        return Ok(None);
+    }
+    let mut part = part;
+    while let Some(place) = ways.pop() {
+        match open::<G>(coming, part, place)? {
+            Symbol::Token(terminal) => return Ok(Some(terminal)),
+            Symbol::Part(next) => part = next,
         }
     }
+    unreachable!()
 }
 
 /// Puts a production's symbols there but the first, which it gives, and the mark that it is over

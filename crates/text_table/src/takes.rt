@@ -1,13 +1,9 @@
 //! How tokens of the grammar take lexemes.
 
 ghost use Rattle.std.specs.Prelude.{◌≡◌};
-ghost use Rattle.std.specs.List.{list_any};
-ghost use denote.Enum.Bare.{sameb};
-ghost use Rattle.text_table.specs.contracts.class.Class.{the_type};
 ghost use Rattle.text_table.specs.Lexemes as spec;
 
-use crate::class::Class;
-use crate::classes::classes_of;
+use crate::classes::has_class;
 use crate::lexeme::Lexeme;
 use crate::terminal::Terminal;
 use table_reader::Take;
@@ -16,21 +12,9 @@ use table_reader::Take;
 pub(crate) fn taken(terminal: Terminal, lexeme: &Lexeme) -> Take<Lexeme>
     ensures { result ≡ spec.takes terminal lexeme.now }
 {
-    if is_among(classes_of(terminal), lexeme.class) {
+    if has_class(terminal, lexeme.class) {
         Take::Whole
     } else {
         Take::No
     }
-}
-
-/// Whether a class is one of these.
-fn is_among(classes: &[Class], class: Class) -> bool
-    ensures { result ≡ list_any (sameb the_type class) classes.now }
-{
-    for one in classes {
-        if class == *one {
-            return true;
-        }
-    }
-    false
 }

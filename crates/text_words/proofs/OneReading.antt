@@ -14,9 +14,9 @@ use Rattle.text_table.specs.Fit.{fits}
 use Rattle.text_table.specs.Lexemes.{takes, weight}
 use Rattle.text_table.specs.Productions.{productions, rank}
 use Rattle.raw_values.specs.Carriers.{carrier}
-use Rattle.raw_reader.specs.Made.{same_productions}
-use Rattle.raw_reader.specs.Makes.{made}
-use Rattle.raw_reader.specs.Reading.{Reads, IsRead}
+use Rattle.raw_ways.specs.Made.{same_productions}
+use Rattle.raw_ways.specs.Makes.{made}
+use Rattle.raw_ways.specs.Reading.{Reads, IsRead}
 use Rattle.raw_meaning.specs.declared.outline.Outline.{Outline}
 use Rattle.raw_meaning.specs.Trees.{type_tree, atom_tree}
 use Rattle.text_words.specs.WordReading.{IsTermRead, IsTypeRead}

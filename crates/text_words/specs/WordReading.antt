@@ -15,7 +15,7 @@ use Rattle.raw_ast.specs.Types.{RawType}
 use Rattle.raw_meaning.specs.declared.outline.Outline.{Outline}
 use Rattle.raw_meaning.specs.Faults.{type_faults, atom_faults}
 use Rattle.raw_meaning.specs.Trees.{type_tree, atom_tree}
-use Rattle.raw_reader.specs.Reading.{IsRead}
+use Rattle.raw_ways.specs.Reading.{IsRead}
 use Rattle.text_words.specs.Typing.{has_type, closed_value}
 
 -- lexemes are read as an atom that breaks no rule and stands for this term

@@ -2,15 +2,15 @@
 
 ghost use Rattle.std.specs.Prelude.{◌≡◌, reverse, IfOk};
 ghost use Rattle.text_table.specs.declared.part.Part.TheVariants as N;
-ghost use Rattle.raw_reader.specs.Built.{CanBuild, IsBuilt};
+ghost use Rattle.raw_ways.specs.Built.{CanBuild, IsBuilt};
 
-use crate::made::atoms::{
+use aen_base::NoMem;
+use raw_productions::atoms::{
     after_constructor_0, after_constructor_1, arguments_1, atom_0, atom_1, atom_in_brackets_0,
     atom_in_brackets_1, atoms_0, constructor_0, constructor_1, exit_variant_0, exit_variant_1,
     plain_atom_0, plain_atom_1, plain_atom_2, plain_atom_3, plain_atom_4, tuple_parts_0,
     tuple_parts_1,
 };
-use aen_base::NoMem;
 use raw_values::{Stack, Value};
 use std::alloc::Global;
 

@@ -2,15 +2,15 @@
 
 ghost use Rattle.std.specs.Prelude.{◌≡◌, reverse, IfOk};
 ghost use Rattle.text_table.specs.declared.part.Part.TheVariants as N;
-ghost use Rattle.raw_reader.specs.Built.{CanBuild, IsBuilt};
+ghost use Rattle.raw_ways.specs.Built.{CanBuild, IsBuilt};
 
-use crate::made::code::{
+use aen_base::NoMem;
+use raw_productions::code::{
     arms_0, arms_1, bound_0, bound_1, code_0, code_1, code_2, computation_0, computation_1,
     computation_2, computation_3, pattern_0, pattern_1, pattern_2, pattern_parts_0,
     pattern_parts_1,
 };
-use crate::made::declarations::{names_1, type_parameters_0};
-use aen_base::NoMem;
+use raw_productions::declarations::{names_1, type_parameters_0};
 use raw_values::{Stack, Value};
 use std::alloc::Global;
 

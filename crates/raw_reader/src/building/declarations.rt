@@ -2,14 +2,14 @@
 
 ghost use Rattle.std.specs.Prelude.{◌≡◌, reverse, IfOk};
 ghost use Rattle.text_table.specs.declared.part.Part.TheVariants as N;
-ghost use Rattle.raw_reader.specs.Built.{CanBuild, IsBuilt};
+ghost use Rattle.raw_ways.specs.Built.{CanBuild, IsBuilt};
 
-use crate::made::declarations::{
+use aen_base::NoMem;
+use raw_productions::declarations::{
     declaration_0, declaration_1, fields_0, fields_1, names_1, text_0, type_parameters_0,
     type_parameters_1, types_0, types_1, variant_end_0, variant_end_1, variant_end_2,
     variant_type_0, variant_type_1, variants_0, variants_1,
 };
-use aen_base::NoMem;
 use raw_values::{Stack, Value};
 use std::alloc::Global;
 

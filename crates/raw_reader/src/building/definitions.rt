@@ -2,14 +2,14 @@
 
 ghost use Rattle.std.specs.Prelude.{◌≡◌, reverse, IfOk};
 ghost use Rattle.text_table.specs.declared.part.Part.TheVariants as N;
-ghost use Rattle.raw_reader.specs.Built.{CanBuild, IsBuilt};
+ghost use Rattle.raw_ways.specs.Built.{CanBuild, IsBuilt};
 
-use crate::made::declarations::{fields_0, fields_1, type_parameters_0, type_parameters_1};
-use crate::made::definitions::{
+use aen_base::NoMem;
+use raw_productions::declarations::{fields_0, fields_1, type_parameters_0, type_parameters_1};
+use raw_productions::definitions::{
     back_end_0, back_end_1, definition_0, definition_name_0, definitions_0, definitions_1,
     fuel_match_0, fuel_parameter_0, name_end_0, name_end_1, name_part_0, name_part_1,
 };
-use aen_base::NoMem;
 use raw_values::{Stack, Value};
 use std::alloc::Global;
 

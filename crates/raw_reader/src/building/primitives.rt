@@ -2,13 +2,13 @@
 
 ghost use Rattle.std.specs.Prelude.{◌≡◌, reverse, IfOk};
 ghost use Rattle.text_table.specs.declared.part.Part.TheVariants as N;
-ghost use Rattle.raw_reader.specs.Built.{CanBuild, IsBuilt};
+ghost use Rattle.raw_ways.specs.Built.{CanBuild, IsBuilt};
 
-use crate::made::primitives::{
+use aen_base::NoMem;
+use raw_productions::primitives::{
     cast_from_0, cast_from_1, in_memory_0, in_memory_1, primitive_0, primitive_1, primitive_2,
     primitive_3, replace_end_0, replace_end_1, swap_end_1, swap_region_0, swap_region_1,
 };
-use aen_base::NoMem;
 use raw_values::{Stack, Value};
 
 pub(crate) fn build_primitive(index: usize, values: &mut Stack) -> Result<Value, NoMem>

@@ -2,14 +2,14 @@
 
 ghost use Rattle.std.specs.Prelude.{◌≡◌, reverse, IfOk};
 ghost use Rattle.text_table.specs.declared.part.Part.TheVariants as N;
-ghost use Rattle.raw_reader.specs.Built.{CanBuild, IsBuilt};
+ghost use Rattle.raw_ways.specs.Built.{CanBuild, IsBuilt};
 
-use crate::made::types::{
+use aen_base::NoMem;
+use raw_productions::types::{
     after_type_name_0, after_type_name_1, factors_1, other_type_0, other_type_1, other_type_2,
     other_type_3, type_0, type_1, type_arguments_0, type_arguments_1, type_in_brackets_0,
     type_in_brackets_1, type_in_brackets_2,
 };
-use aen_base::NoMem;
 use raw_values::{Stack, Value};
 use std::alloc::Global;
 

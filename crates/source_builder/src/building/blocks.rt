@@ -5,14 +5,14 @@ ghost use Rattle.source_grammar.specs.declared.part.Part.TheVariants as N;
 ghost use Rattle.source_values.specs.Stacked.{CanBuild, IsBuilt};
 
 use aen_base::NoMem;
-use source_values::made::blocks::{
+use source_expressions::blocks::{
     after_block_arm_0, after_block_like_0, after_block_like_1, after_expression_1, after_if_0,
     after_if_1, after_while_0, after_while_1, arm_body_0, arms_0, arms_1, block_0, block_like_0,
     block_like_1, block_like_2, block_like_3, block_like_4, if_0, let_value_0, let_value_1,
     more_statements_0, more_statements_1, more_statements_2, more_statements_3, statements_0,
     statements_1,
 };
-use source_values::made::items::{result_0, result_1};
+use source_items::items::{result_0, result_1};
 use source_values::{Stack, Value};
 use std::alloc::Global;
 

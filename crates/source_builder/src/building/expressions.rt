@@ -6,9 +6,8 @@ ghost use Rattle.source_values.specs.Stacked.{CanBuild, IsBuilt};
 ghost use Rattle.source_grammar.specs.declared.part.Context.TheVariants as At;
 
 use aen_base::NoMem;
-use source_grammar::{Context, Level};
-use source_values::made::blocks::{let_value_0, let_value_1};
-use source_values::made::expressions::{
+use source_expressions::blocks::{let_value_0, let_value_1};
+use source_expressions::expressions::{
     after_first_1, after_open_0, after_open_1, borrowed_free_0, borrowed_free_1, core_free_0,
     core_free_1, core_free_2, core_free_3, core_free_6, expression_condition_0,
     expression_condition_1, field_name_0, initial_0, leading_cast_0, leading_expression_0,
@@ -16,7 +15,8 @@ use source_values::made::expressions::{
     leading_unary_1, leading_unary_2, leading_unary_3, leading_unary_4, more_assign_free_0,
     more_assign_free_1, more_casts_0, more_casts_1, more_or_free_1, operand_1, postfix_1,
 };
-use source_values::made::generics::type_parameters_0;
+use source_grammar::{Context, Level};
+use source_items::generics::type_parameters_0;
 use source_values::{Stack, Value};
 use std::alloc::Global;
 

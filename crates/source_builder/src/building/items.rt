@@ -5,15 +5,15 @@ ghost use Rattle.source_grammar.specs.declared.part.Part.TheVariants as N;
 ghost use Rattle.source_values.specs.Stacked.{CanBuild, IsBuilt};
 
 use aen_base::NoMem;
-use source_values::made::fields::{
+use source_items::fields::{
     field_0, field_1, struct_body_0, struct_body_1, struct_body_2, tuple_field_0, tuple_field_1,
     variant_0, variant_body_0, variant_body_1,
 };
-use source_values::made::generics::{
+use source_items::generics::{
     generics_0, generics_1, lifetimes_0, lifetimes_1, lifetimes_2, type_parameters_0,
     type_parameters_1,
 };
-use source_values::made::items::{
+use source_items::items::{
     after_hash_0, after_hash_1, attribute_0, attributed_0, attributed_1, attributed_2,
     declaration_0, declaration_1, declaration_2, item_2, items_1, parameter_0, parameter_1,
     program_0, program_1, program_2, result_0, result_1,

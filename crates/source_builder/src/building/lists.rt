@@ -5,19 +5,19 @@ ghost use Rattle.source_grammar.specs.declared.part.Part.TheVariants as N;
 ghost use Rattle.source_values.specs.Stacked.{CanBuild, IsBuilt};
 
 use aen_base::NoMem;
-use source_grammar::Listed;
-use source_values::made::expressions::{after_open_0, after_open_1};
-use source_values::made::fields::variant_body_1;
-use source_values::made::generics::type_parameters_1;
-use source_values::made::lists::{
+use source_expressions::expressions::{after_open_0, after_open_1};
+use source_expressions::lists::{
     list_field_patterns_0, list_field_patterns_1, list_fields_0, list_fields_1, list_initials_0,
     list_initials_1, list_names_0, list_names_1, list_parameters_0, list_parameters_1,
     list_rest_arguments_1, list_rest_field_patterns_1, list_rest_fields_1, list_rest_initials_1,
     list_rest_parameters_1, list_rest_patterns_1, list_rest_variants_1, list_variants_0,
     list_variants_1,
 };
-use source_values::made::patterns::{after_pattern_open_0, after_pattern_open_1};
-use source_values::made::types::{after_type_open_0, after_type_open_1};
+use source_grammar::Listed;
+use source_items::fields::variant_body_1;
+use source_items::generics::type_parameters_1;
+use source_items::patterns::{after_pattern_open_0, after_pattern_open_1};
+use source_items::types::{after_type_open_0, after_type_open_1};
 use source_values::{Stack, Value};
 use std::alloc::Global;
 

@@ -6,8 +6,7 @@ ghost use Rattle.source_values.specs.Stacked.{CanBuild, IsBuilt};
 ghost use Rattle.source_grammar.specs.declared.part.Context.TheVariants as At;
 
 use aen_base::NoMem;
-use source_grammar::Context;
-use source_values::made::paths::{
+use source_expressions::paths::{
     after_assert_free_2, after_colons_free_0, after_colons_free_1, after_mem_colons_free_1,
     after_mem_free_1, after_mem_free_2, after_name_free_0, after_name_free_1, after_panic_free_2,
     after_path_0, after_path_1, after_path_2, after_std_colons_free_1, after_std_mem_0,
@@ -15,6 +14,7 @@ use source_values::made::paths::{
     after_turbo_free_0, after_turbo_free_1, applied_free_0, applied_free_1, assert_end_1,
     message_0, message_1,
 };
+use source_grammar::Context;
 use source_values::{Stack, Value};
 use std::alloc::Global;
 

@@ -5,7 +5,7 @@ ghost use Rattle.source_grammar.specs.declared.part.Part.TheVariants as N;
 ghost use Rattle.source_values.specs.Stacked.{CanBuild, IsBuilt};
 
 use aen_base::NoMem;
-use source_values::made::patterns::{
+use source_items::patterns::{
     after_pattern_1, after_pattern_colons_0, after_pattern_colons_1, after_pattern_mem_colons_1,
     after_pattern_name_0, after_pattern_name_1, after_pattern_name_2, after_pattern_open_0,
     after_pattern_open_1, after_pattern_std_colons_1, after_pattern_std_mem_0,

@@ -5,8 +5,8 @@ ghost use Rattle.source_grammar.specs.declared.part.Part.TheVariants as N;
 ghost use Rattle.source_values.specs.Stacked.{CanBuild, IsBuilt};
 
 use aen_base::NoMem;
-use source_values::made::fields::{variant_body_0, variant_body_1};
-use source_values::made::types::{
+use source_items::fields::{variant_body_0, variant_body_1};
+use source_items::types::{
     after_type_1, after_type_open_0, after_type_open_1, borrow_lifetime_0, borrow_lifetime_1,
     borrow_mut_0, borrow_mut_1, type_0, type_1, type_2, type_3, type_4, type_5,
 };

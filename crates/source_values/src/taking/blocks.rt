@@ -14,7 +14,7 @@ use source_ways::front_list::FrontList;
 use source_ways::spanned::Spanned;
 
 /// Takes the value of a part off that is held as `Block`.
-pub(crate) fn take_block(values: &mut Stack) -> Spanned<Block>
+pub fn take_block(values: &mut Stack) -> Spanned<Block>
     requires { Has V.Block (reverse values.old) }
     ensures { reverse values.old ≡ I.Part (V.Block result) ∷ reverse values.new }
 {
@@ -28,7 +28,7 @@ pub(crate) fn take_block(values: &mut Stack) -> Spanned<Block>
 }
 
 /// Takes the value of a part off that is held as `Body`.
-pub(crate) fn take_body(values: &mut Stack) -> Spanned<Body>
+pub fn take_body(values: &mut Stack) -> Spanned<Body>
     requires { Has V.Body (reverse values.old) }
     ensures { reverse values.old ≡ I.Part (V.Body result) ∷ reverse values.new }
 {
@@ -42,7 +42,7 @@ pub(crate) fn take_body(values: &mut Stack) -> Spanned<Body>
 }
 
 /// Takes the value of a part off that is held as `MaybeBody`.
-pub(crate) fn take_maybe_body(values: &mut Stack) -> Spanned<Option<Body>>
+pub fn take_maybe_body(values: &mut Stack) -> Spanned<Option<Body>>
     requires { Has V.MaybeBody (reverse values.old) }
     ensures { reverse values.old ≡ I.Part (V.MaybeBody result) ∷ reverse values.new }
 {
@@ -56,7 +56,7 @@ pub(crate) fn take_maybe_body(values: &mut Stack) -> Spanned<Option<Body>>
 }
 
 /// Takes the value of a part off that is held as `Conditional`.
-pub(crate) fn take_conditional(values: &mut Stack) -> Spanned<Conditional>
+pub fn take_conditional(values: &mut Stack) -> Spanned<Conditional>
     requires { Has V.Conditional (reverse values.old) }
     ensures { reverse values.old ≡ I.Part (V.Conditional result) ∷ reverse values.new }
 {
@@ -70,7 +70,7 @@ pub(crate) fn take_conditional(values: &mut Stack) -> Spanned<Conditional>
 }
 
 /// Takes the value of a part off that is held as `Arms`.
-pub(crate) fn take_arms(values: &mut Stack) -> Spanned<FrontList<(Pat, Expr)>>
+pub fn take_arms(values: &mut Stack) -> Spanned<FrontList<(Pat, Expr)>>
     requires { Has V.Arms (reverse values.old) }
     ensures { reverse values.old ≡ I.Part (V.Arms result) ∷ reverse values.new }
 {
@@ -84,7 +84,7 @@ pub(crate) fn take_arms(values: &mut Stack) -> Spanned<FrontList<(Pat, Expr)>>
 }
 
 /// Takes the value of a part off that is held as `ArmBody`.
-pub(crate) fn take_arm_body(values: &mut Stack) -> Spanned<ArmBody>
+pub fn take_arm_body(values: &mut Stack) -> Spanned<ArmBody>
     requires { Has V.ArmBody (reverse values.old) }
     ensures { reverse values.old ≡ I.Part (V.ArmBody result) ∷ reverse values.new }
 {

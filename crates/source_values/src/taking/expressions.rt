@@ -15,7 +15,7 @@ use source_ways::operations::{Borrowed, Operation};
 use source_ways::spanned::Spanned;
 
 /// Takes the value of a part off that is held as `Expr`.
-pub(crate) fn take_expr(values: &mut Stack) -> Spanned<Expr>
+pub fn take_expr(values: &mut Stack) -> Spanned<Expr>
     requires { Has V.Expr (reverse values.old) }
     ensures { reverse values.old ≡ I.Part (V.Expr result) ∷ reverse values.new }
 {
@@ -29,7 +29,7 @@ pub(crate) fn take_expr(values: &mut Stack) -> Spanned<Expr>
 }
 
 /// Takes the value of a part off that is held as `Exprs`.
-pub(crate) fn take_exprs(values: &mut Stack) -> Spanned<FrontList<Expr>>
+pub fn take_exprs(values: &mut Stack) -> Spanned<FrontList<Expr>>
     requires { Has V.Exprs (reverse values.old) }
     ensures { reverse values.old ≡ I.Part (V.Exprs result) ∷ reverse values.new }
 {
@@ -43,7 +43,7 @@ pub(crate) fn take_exprs(values: &mut Stack) -> Spanned<FrontList<Expr>>
 }
 
 /// Takes the value of a part off that is held as `MaybeExpr`.
-pub(crate) fn take_maybe_expr(values: &mut Stack) -> Spanned<Option<Expr>>
+pub fn take_maybe_expr(values: &mut Stack) -> Spanned<Option<Expr>>
     requires { Has V.MaybeExpr (reverse values.old) }
     ensures { reverse values.old ≡ I.Part (V.MaybeExpr result) ∷ reverse values.new }
 {
@@ -57,7 +57,7 @@ pub(crate) fn take_maybe_expr(values: &mut Stack) -> Spanned<Option<Expr>>
 }
 
 /// Takes the value of a part off that is held as `Operations`.
-pub(crate) fn take_operations(values: &mut Stack) -> Spanned<FrontList<Operation>>
+pub fn take_operations(values: &mut Stack) -> Spanned<FrontList<Operation>>
     requires { Has V.Operations (reverse values.old) }
     ensures { reverse values.old ≡ I.Part (V.Operations result) ∷ reverse values.new }
 {
@@ -71,7 +71,7 @@ pub(crate) fn take_operations(values: &mut Stack) -> Spanned<FrontList<Operation
 }
 
 /// Takes the value of a part off that is held as `Casts`.
-pub(crate) fn take_casts(values: &mut Stack) -> Spanned<FrontList<(Span, IntTy)>>
+pub fn take_casts(values: &mut Stack) -> Spanned<FrontList<(Span, IntTy)>>
     requires { Has V.Casts (reverse values.old) }
     ensures { reverse values.old ≡ I.Part (V.Casts result) ∷ reverse values.new }
 {
@@ -85,7 +85,7 @@ pub(crate) fn take_casts(values: &mut Stack) -> Spanned<FrontList<(Span, IntTy)>
 }
 
 /// Takes the value of a part off that is held as `Borrowed`.
-pub(crate) fn take_borrowed(values: &mut Stack) -> Spanned<Borrowed>
+pub fn take_borrowed(values: &mut Stack) -> Spanned<Borrowed>
     requires { Has V.Borrowed (reverse values.old) }
     ensures { reverse values.old ≡ I.Part (V.Borrowed result) ∷ reverse values.new }
 {
@@ -99,7 +99,7 @@ pub(crate) fn take_borrowed(values: &mut Stack) -> Spanned<Borrowed>
 }
 
 /// Takes the value of a part off that is held as `Ident`.
-pub(crate) fn take_ident(values: &mut Stack) -> Spanned<Ident>
+pub fn take_ident(values: &mut Stack) -> Spanned<Ident>
     requires { Has V.Ident (reverse values.old) }
     ensures { reverse values.old ≡ I.Part (V.Ident result) ∷ reverse values.new }
 {
@@ -113,7 +113,7 @@ pub(crate) fn take_ident(values: &mut Stack) -> Spanned<Ident>
 }
 
 /// Takes the value of a part off that is held as `Initial`.
-pub(crate) fn take_initial(values: &mut Stack) -> Spanned<(Span, Name, Expr)>
+pub fn take_initial(values: &mut Stack) -> Spanned<(Span, Name, Expr)>
     requires { Has V.Initial (reverse values.old) }
     ensures { reverse values.old ≡ I.Part (V.Initial result) ∷ reverse values.new }
 {
@@ -127,7 +127,7 @@ pub(crate) fn take_initial(values: &mut Stack) -> Spanned<(Span, Name, Expr)>
 }
 
 /// Takes the value of a part off that is held as `Initials`.
-pub(crate) fn take_initials(values: &mut Stack) -> Spanned<FrontList<(Span, Name, Expr)>>
+pub fn take_initials(values: &mut Stack) -> Spanned<FrontList<(Span, Name, Expr)>>
     requires { Has V.Initials (reverse values.old) }
     ensures { reverse values.old ≡ I.Part (V.Initials result) ∷ reverse values.new }
 {

@@ -16,7 +16,7 @@ use source_ways::generics::Generics;
 use source_ways::spanned::Spanned;
 
 /// Takes the value of a part off that is held as `Items`.
-pub(crate) fn take_items(values: &mut Stack) -> Spanned<FrontList<Item>>
+pub fn take_items(values: &mut Stack) -> Spanned<FrontList<Item>>
     requires { Has V.Items (reverse values.old) }
     ensures { reverse values.old ≡ I.Part (V.Items result) ∷ reverse values.new }
 {
@@ -30,7 +30,7 @@ pub(crate) fn take_items(values: &mut Stack) -> Spanned<FrontList<Item>>
 }
 
 /// Takes the value of a part off that is held as `Nothing`.
-pub(crate) fn take_nothing(values: &mut Stack) -> Spanned<()>
+pub fn take_nothing(values: &mut Stack) -> Spanned<()>
     requires { Has V.Nothing (reverse values.old) }
     ensures { reverse values.old ≡ I.Part (V.Nothing result) ∷ reverse values.new }
 {
@@ -44,7 +44,7 @@ pub(crate) fn take_nothing(values: &mut Stack) -> Spanned<()>
 }
 
 /// Takes the value of a part off that is held as `Item`.
-pub(crate) fn take_item(values: &mut Stack) -> Spanned<Item>
+pub fn take_item(values: &mut Stack) -> Spanned<Item>
     requires { Has V.Item (reverse values.old) }
     ensures { reverse values.old ≡ I.Part (V.Item result) ∷ reverse values.new }
 {
@@ -58,7 +58,7 @@ pub(crate) fn take_item(values: &mut Stack) -> Spanned<Item>
 }
 
 /// Takes the value of a part off that is held as `Generics`.
-pub(crate) fn take_generics(values: &mut Stack) -> Spanned<Generics>
+pub fn take_generics(values: &mut Stack) -> Spanned<Generics>
     requires { Has V.Generics (reverse values.old) }
     ensures { reverse values.old ≡ I.Part (V.Generics result) ∷ reverse values.new }
 {
@@ -72,7 +72,7 @@ pub(crate) fn take_generics(values: &mut Stack) -> Spanned<Generics>
 }
 
 /// Takes the value of a part off that is held as `Idents`.
-pub(crate) fn take_idents(values: &mut Stack) -> Spanned<FrontList<Ident>>
+pub fn take_idents(values: &mut Stack) -> Spanned<FrontList<Ident>>
     requires { Has V.Idents (reverse values.old) }
     ensures { reverse values.old ≡ I.Part (V.Idents result) ∷ reverse values.new }
 {
@@ -86,7 +86,7 @@ pub(crate) fn take_idents(values: &mut Stack) -> Spanned<FrontList<Ident>>
 }
 
 /// Takes the value of a part off that is held as `Param`.
-pub(crate) fn take_param(values: &mut Stack) -> Spanned<Param>
+pub fn take_param(values: &mut Stack) -> Spanned<Param>
     requires { Has V.Param (reverse values.old) }
     ensures { reverse values.old ≡ I.Part (V.Param result) ∷ reverse values.new }
 {
@@ -100,7 +100,7 @@ pub(crate) fn take_param(values: &mut Stack) -> Spanned<Param>
 }
 
 /// Takes the value of a part off that is held as `Params`.
-pub(crate) fn take_params(values: &mut Stack) -> Spanned<FrontList<Param>>
+pub fn take_params(values: &mut Stack) -> Spanned<FrontList<Param>>
     requires { Has V.Params (reverse values.old) }
     ensures { reverse values.old ≡ I.Part (V.Params result) ∷ reverse values.new }
 {
@@ -114,7 +114,7 @@ pub(crate) fn take_params(values: &mut Stack) -> Spanned<FrontList<Param>>
 }
 
 /// Takes the value of a part off that is held as `Fields`.
-pub(crate) fn take_fields(values: &mut Stack) -> Spanned<Fields>
+pub fn take_fields(values: &mut Stack) -> Spanned<Fields>
     requires { Has V.Fields (reverse values.old) }
     ensures { reverse values.old ≡ I.Part (V.Fields result) ∷ reverse values.new }
 {
@@ -128,7 +128,7 @@ pub(crate) fn take_fields(values: &mut Stack) -> Spanned<Fields>
 }
 
 /// Takes the value of a part off that is held as `Field`.
-pub(crate) fn take_field(values: &mut Stack) -> Spanned<(Span, Name, Written)>
+pub fn take_field(values: &mut Stack) -> Spanned<(Span, Name, Written)>
     requires { Has V.Field (reverse values.old) }
     ensures { reverse values.old ≡ I.Part (V.Field result) ∷ reverse values.new }
 {
@@ -142,7 +142,7 @@ pub(crate) fn take_field(values: &mut Stack) -> Spanned<(Span, Name, Written)>
 }
 
 /// Takes the value of a part off that is held as `NamedFields`.
-pub(crate) fn take_named_fields(values: &mut Stack) -> Spanned<FrontList<(Span, Name, Written)>>
+pub fn take_named_fields(values: &mut Stack) -> Spanned<FrontList<(Span, Name, Written)>>
     requires { Has V.NamedFields (reverse values.old) }
     ensures { reverse values.old ≡ I.Part (V.NamedFields result) ∷ reverse values.new }
 {
@@ -156,7 +156,7 @@ pub(crate) fn take_named_fields(values: &mut Stack) -> Spanned<FrontList<(Span, 
 }
 
 /// Takes the value of a part off that is held as `Variant`.
-pub(crate) fn take_variant(values: &mut Stack) -> Spanned<Variant>
+pub fn take_variant(values: &mut Stack) -> Spanned<Variant>
     requires { Has V.Variant (reverse values.old) }
     ensures { reverse values.old ≡ I.Part (V.Variant result) ∷ reverse values.new }
 {
@@ -170,7 +170,7 @@ pub(crate) fn take_variant(values: &mut Stack) -> Spanned<Variant>
 }
 
 /// Takes the value of a part off that is held as `Variants`.
-pub(crate) fn take_variants(values: &mut Stack) -> Spanned<FrontList<Variant>>
+pub fn take_variants(values: &mut Stack) -> Spanned<FrontList<Variant>>
     requires { Has V.Variants (reverse values.old) }
     ensures { reverse values.old ≡ I.Part (V.Variants result) ∷ reverse values.new }
 {

@@ -11,7 +11,7 @@ use source_ways::paths::{After, Calling, Further, InMem};
 use source_ways::spanned::Spanned;
 
 /// Takes the value of a part off that is held as `After`.
-pub(crate) fn take_after(values: &mut Stack) -> Spanned<After>
+pub fn take_after(values: &mut Stack) -> Spanned<After>
     requires { Has V.After (reverse values.old) }
     ensures { reverse values.old ≡ I.Part (V.After result) ∷ reverse values.new }
 {
@@ -25,7 +25,7 @@ pub(crate) fn take_after(values: &mut Stack) -> Spanned<After>
 }
 
 /// Takes the value of a part off that is held as `Further`.
-pub(crate) fn take_further(values: &mut Stack) -> Spanned<Further>
+pub fn take_further(values: &mut Stack) -> Spanned<Further>
     requires { Has V.Further (reverse values.old) }
     ensures { reverse values.old ≡ I.Part (V.Further result) ∷ reverse values.new }
 {
@@ -39,7 +39,7 @@ pub(crate) fn take_further(values: &mut Stack) -> Spanned<Further>
 }
 
 /// Takes the value of a part off that is held as `InMem`.
-pub(crate) fn take_in_mem(values: &mut Stack) -> Spanned<InMem>
+pub fn take_in_mem(values: &mut Stack) -> Spanned<InMem>
     requires { Has V.InMem (reverse values.old) }
     ensures { reverse values.old ≡ I.Part (V.InMem result) ∷ reverse values.new }
 {
@@ -53,7 +53,7 @@ pub(crate) fn take_in_mem(values: &mut Stack) -> Spanned<InMem>
 }
 
 /// Takes the value of a part off that is held as `Calling`.
-pub(crate) fn take_calling(values: &mut Stack) -> Spanned<Calling>
+pub fn take_calling(values: &mut Stack) -> Spanned<Calling>
     requires { Has V.Calling (reverse values.old) }
     ensures { reverse values.old ≡ I.Part (V.Calling result) ∷ reverse values.new }
 {

@@ -13,7 +13,7 @@ use source_ways::front_list::FrontList;
 use source_ways::spanned::Spanned;
 
 /// Takes the value of a part off that is held as `Pat`.
-pub(crate) fn take_pat(values: &mut Stack) -> Spanned<Pat>
+pub fn take_pat(values: &mut Stack) -> Spanned<Pat>
     requires { Has V.Pat (reverse values.old) }
     ensures { reverse values.old ≡ I.Part (V.Pat result) ∷ reverse values.new }
 {
@@ -27,7 +27,7 @@ pub(crate) fn take_pat(values: &mut Stack) -> Spanned<Pat>
 }
 
 /// Takes the value of a part off that is held as `Pats`.
-pub(crate) fn take_pats(values: &mut Stack) -> Spanned<FrontList<Pat>>
+pub fn take_pats(values: &mut Stack) -> Spanned<FrontList<Pat>>
     requires { Has V.Pats (reverse values.old) }
     ensures { reverse values.old ≡ I.Part (V.Pats result) ∷ reverse values.new }
 {
@@ -41,7 +41,7 @@ pub(crate) fn take_pats(values: &mut Stack) -> Spanned<FrontList<Pat>>
 }
 
 /// Takes the value of a part off that is held as `MaybePat`.
-pub(crate) fn take_maybe_pat(values: &mut Stack) -> Spanned<Option<Pat>>
+pub fn take_maybe_pat(values: &mut Stack) -> Spanned<Option<Pat>>
     requires { Has V.MaybePat (reverse values.old) }
     ensures { reverse values.old ≡ I.Part (V.MaybePat result) ∷ reverse values.new }
 {
@@ -55,7 +55,7 @@ pub(crate) fn take_maybe_pat(values: &mut Stack) -> Spanned<Option<Pat>>
 }
 
 /// Takes the value of a part off that is held as `FieldPat`.
-pub(crate) fn take_field_pat(values: &mut Stack) -> Spanned<FieldPat>
+pub fn take_field_pat(values: &mut Stack) -> Spanned<FieldPat>
     requires { Has V.FieldPat (reverse values.old) }
     ensures { reverse values.old ≡ I.Part (V.FieldPat result) ∷ reverse values.new }
 {
@@ -69,7 +69,7 @@ pub(crate) fn take_field_pat(values: &mut Stack) -> Spanned<FieldPat>
 }
 
 /// Takes the value of a part off that is held as `FieldPats`.
-pub(crate) fn take_field_pats(values: &mut Stack) -> Spanned<FrontList<FieldPat>>
+pub fn take_field_pats(values: &mut Stack) -> Spanned<FrontList<FieldPat>>
     requires { Has V.FieldPats (reverse values.old) }
     ensures { reverse values.old ≡ I.Part (V.FieldPats result) ∷ reverse values.new }
 {
@@ -83,7 +83,7 @@ pub(crate) fn take_field_pats(values: &mut Stack) -> Spanned<FrontList<FieldPat>
 }
 
 /// Takes the value of a part off that is held as `Given`.
-pub(crate) fn take_given(values: &mut Stack) -> Spanned<Given>
+pub fn take_given(values: &mut Stack) -> Spanned<Given>
     requires { Has V.Given (reverse values.old) }
     ensures { reverse values.old ≡ I.Part (V.Given result) ∷ reverse values.new }
 {
@@ -97,7 +97,7 @@ pub(crate) fn take_given(values: &mut Stack) -> Spanned<Given>
 }
 
 /// Takes the value of a part off that is held as `AfterName`.
-pub(crate) fn take_after_name(values: &mut Stack) -> Spanned<AfterName>
+pub fn take_after_name(values: &mut Stack) -> Spanned<AfterName>
     requires { Has V.AfterName (reverse values.old) }
     ensures { reverse values.old ≡ I.Part (V.AfterName result) ∷ reverse values.new }
 {
@@ -111,7 +111,7 @@ pub(crate) fn take_after_name(values: &mut Stack) -> Spanned<AfterName>
 }
 
 /// Takes the value of a part off that is held as `AfterMem`.
-pub(crate) fn take_after_mem(values: &mut Stack) -> Spanned<AfterMem>
+pub fn take_after_mem(values: &mut Stack) -> Spanned<AfterMem>
     requires { Has V.AfterMem (reverse values.old) }
     ensures { reverse values.old ≡ I.Part (V.AfterMem result) ∷ reverse values.new }
 {

@@ -12,7 +12,7 @@ use source_ways::front_list::FrontList;
 use source_ways::spanned::Spanned;
 
 /// Takes the value of a part off that is held as `Written`.
-pub(crate) fn take_written(values: &mut Stack) -> Spanned<Written>
+pub fn take_written(values: &mut Stack) -> Spanned<Written>
     requires { Has V.Written (reverse values.old) }
     ensures { reverse values.old ≡ I.Part (V.Written result) ∷ reverse values.new }
 {
@@ -26,7 +26,7 @@ pub(crate) fn take_written(values: &mut Stack) -> Spanned<Written>
 }
 
 /// Takes the value of a part off that is held as `Writtens`.
-pub(crate) fn take_writtens(values: &mut Stack) -> Spanned<FrontList<Written>>
+pub fn take_writtens(values: &mut Stack) -> Spanned<FrontList<Written>>
     requires { Has V.Writtens (reverse values.old) }
     ensures { reverse values.old ≡ I.Part (V.Writtens result) ∷ reverse values.new }
 {
@@ -40,7 +40,7 @@ pub(crate) fn take_writtens(values: &mut Stack) -> Spanned<FrontList<Written>>
 }
 
 /// Takes the value of a part off that is held as `MaybeWritten`.
-pub(crate) fn take_maybe_written(values: &mut Stack) -> Spanned<Option<Written>>
+pub fn take_maybe_written(values: &mut Stack) -> Spanned<Option<Written>>
     requires { Has V.MaybeWritten (reverse values.old) }
     ensures { reverse values.old ≡ I.Part (V.MaybeWritten result) ∷ reverse values.new }
 {
@@ -54,7 +54,7 @@ pub(crate) fn take_maybe_written(values: &mut Stack) -> Spanned<Option<Written>>
 }
 
 /// Takes the value of a part off that is held as `Lifetime`.
-pub(crate) fn take_lifetime(values: &mut Stack) -> Spanned<Lifetime>
+pub fn take_lifetime(values: &mut Stack) -> Spanned<Lifetime>
     requires { Has V.Lifetime (reverse values.old) }
     ensures { reverse values.old ≡ I.Part (V.Lifetime result) ∷ reverse values.new }
 {
@@ -68,7 +68,7 @@ pub(crate) fn take_lifetime(values: &mut Stack) -> Spanned<Lifetime>
 }
 
 /// Takes the value of a part off that is held as `Truth`.
-pub(crate) fn take_truth(values: &mut Stack) -> Spanned<bool>
+pub fn take_truth(values: &mut Stack) -> Spanned<bool>
     requires { Has V.Truth (reverse values.old) }
     ensures { reverse values.old ≡ I.Part (V.Truth result) ∷ reverse values.new }
 {

@@ -1,25 +1,18 @@
 -- The words are those of the form.
-use Rattle.std.proofs.Common.{◌≡◌, ◌∙◌, ap, map, ◌<◌, ◌-◌, [], ◌∷◌, length, take, drop, arith, sym, subst}
-use Rattle.std.specs.Prelude.{codes}
-use Rattle.std.specs.String.{string_bytes, string_len}
+use Rattle.std.proofs.Common.{◌∙◌, ap, map, ◌-◌, [], ◌∷◌, length, take, drop, sym}
+use Rattle.std.specs.String.{string_bytes}
 use Rattle.std.proofs.lemmas.List.Elements.{All-map}
 use Rattle.aeneas.specs.Words.{IsShort}
-use Rattle.aeneas.proofs.WordLemmas.{two_items, four_items, same_bytes, len_is, short_by_len}
-use Rattle.aeneas.proofs.Forms.{call_form}
+use Rattle.aeneas.proofs.WordLemmas.{two_items, four_items, short_by_len}
+use Rattle.aeneas.proofs.Forms.{file_form, call_form}
 use Rattle.aeneas.proofs.command.form_of.Goals as goal
 
 pub returns-in-len2 : goal.returns-in-len2
 returns-in-len2 c =
     let two = two_items c.args.words.now c.command-item.result c.file-item.result c.in-len2.len_at_least c.in-len2.len_below c.command-item.is c.file-item.is in
-    let command = same_bytes c.as_str.result.now (codes "translate") (sym c.if-eq.ensures) in
-    let same : c.as_str-in-len2.result.now ≡ string_bytes c.file-item.result = c.as_str-in-len2.ensures.value in
-    let within : 1 < length c.args.words.now = omega (arith, c.in-len2.len_at_least) in
-    let at_one = c.requires 1 c.file-item.result within in
-    let small : string_len c.file-item.result < 4294967296 = subst (λ w. string_len w < 4294967296) (sym c.file-item.is) at_one in
-    record {
-      words_are = ap (λ ws. map string_bytes ws) two ∙ (λ i. (sym c.as_str.ensures.value ∙ command) i ∷ sym same i ∷ []);
-      short = subst IsShort (sym same) (subst (λ n. n < 4294967296) (len_is c.file-item.result) small);
-    }
+    file_form (map string_bytes c.args.words.now) c.as_str.result.now c.as_str-in-len2.result.now
+    (ap (λ ws. map string_bytes ws) two ∙ (λ i. sym c.as_str.ensures.value i ∷ sym c.as_str-in-len2.ensures.value i ∷ []))
+    (All-map IsShort string_bytes c.args.words.now (short_by_len c.args.words.now c.requires)) c.file_form.result c.file_form.ensures
 
 pub returns-in-len4-up : goal.returns-in-len4-up
 returns-in-len4-up c =
