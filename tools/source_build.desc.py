@@ -83,7 +83,7 @@ IMPORTS = {
     "source_ways::spanned": "Spanned",
     "source_ways::spans": "join span_of",
     "source_ways::says": "ident lifetime",
-    "aen_base": "IntTy Name NoMem Span",
+    "aen_base": "Boxed IntTy List Name NoMem Span",
     "rust_ast": "Ident",
     "rust_ast::program": "Fields Item Param Variant",
     "rust_ast::source": "Block Expr ExprNode",

@@ -2,46 +2,47 @@
 
 GRAMMAR = "text_grammar.desc.py"
 
-# What parts are read as, by subject: a variant, the type in code, the type in definitions, and the parts.
+# What parts are read as, by subject: a variant, the type in code, the type in definitions, and the parts. What is larger than
+# four words stands in a box, so that the stack's items stay as small as a lexeme.
 KINDS = {
     "declarations": """
-        Text         = RawText = RawText = Text
+        Text         = Boxed<RawText> = RawText = Text
         Declarations = FrontList<Declaration> = List Declaration = Types
-        Declaration  = Declaration = Declaration = Declaration
+        Declaration  = Boxed<Declaration> = Declaration = Declaration
         Names        = FrontList<Spelling> = List Spelling = TypeParameters Names ImplicitParameters PatternParts Variables
         Variants     = FrontList<Variant> = List Variant = Variants
-        VariantRest  = VariantRest = VariantRest = VariantType
-        AfterName    = AfterName = AfterName = VariantEnd
+        VariantRest  = Boxed<VariantRest> = VariantRest = VariantType
+        AfterName    = Boxed<AfterName> = AfterName = VariantEnd
         Fields       = FrontList<(Spelling, RawType)> = List (Spelling × RawType) = Fields Parameters
         """,
     "types": """
-        Type          = RawType = RawType = Type OtherType TypeInBrackets
+        Type          = Boxed<RawType> = RawType = Type OtherType TypeInBrackets
         Types         = FrontList<RawType> = List RawType = TypeArguments Factors
         AfterTypeName = AfterTypeName = AfterTypeName = AfterTypeName
         """,
     "definitions": """
         Definitions    = FrontList<Definition> = List Definition = Definitions
-        Definition     = Definition = Definition = Definition
+        Definition     = Boxed<Definition> = Definition = Definition
         Nothing        = () = Unit {0} = FuelParameter FuelMatch
-        DefinitionName = DefinitionName = DefinitionName = DefinitionName
-        NameEnd        = NameEnd = NameEnd = NameEnd NamePart
-        BackEnd        = Option<Spelling> = Option Spelling = BackEnd
+        DefinitionName = Boxed<DefinitionName> = DefinitionName = DefinitionName
+        NameEnd        = Boxed<NameEnd> = NameEnd = NameEnd NamePart
+        BackEnd        = Boxed<Option<Spelling>> = Option Spelling = BackEnd
         """,
     "code": """
-        Code        = RawCode = RawCode = Code
-        Bound       = Bound = Bound = Bound
+        Code        = Boxed<RawCode> = RawCode = Code
+        Bound       = Boxed<Bound> = Bound = Bound
         Arms        = FrontList<(Pattern, RawCode)> = List (Pattern × RawCode) = Arms
-        Pattern     = Pattern = Pattern = Pattern
-        Computation = Computation = Computation = Computation
+        Pattern     = Boxed<Pattern> = Pattern = Pattern
+        Computation = Boxed<Computation> = Computation = Computation
         """,
     "primitives": """
         Operation    = Operation = Operation = Primitive CastFrom InMemory SwapRegion
         OperationEnd = Option<Operation> = Option Operation = ReplaceEnd SwapEnd
         """,
     "atoms": """
-        Atom             = RawAtom = RawAtom = Atom PlainAtom AtomInBrackets
+        Atom             = Boxed<RawAtom> = RawAtom = Atom PlainAtom AtomInBrackets
         Atoms            = FrontList<RawAtom> = List RawAtom = TupleParts Arguments Atoms
-        Constructor      = Constructor = Constructor = Constructor ExitVariant
+        Constructor      = Boxed<Constructor> = Constructor = Constructor ExitVariant
         AfterConstructor = AfterConstructor = AfterConstructor = AfterConstructor
         """,
 }
@@ -54,7 +55,7 @@ IMPORTS = {
     "raw_values::front_list": "FrontList",
     "raw_values::rests": "AfterConstructor AfterName AfterTypeName Bound NameEnd VariantRest",
     "raw_ways": "spelled",
-    "aen_base": "NoMem",
+    "aen_base": "Boxed List NoMem",
     "raw_ast": "Computation Constructor Declaration Definition DefinitionName Operation Pattern RawAtom RawCode RawText RawType Spelling Variant",
     "text_table": "Lexeme Part",
     "std::alloc": "Global",

@@ -30,7 +30,7 @@ use Rattle.text_names.specs.Settled.{first}
 use Rattle.lean_reader.specs.declared.read.LeanFault.{LeanFault}
 use Rattle.lean_reader.specs.declared.read.LeanFault.TheVariants.{Syntax, Limit, Memory}
 use Rattle.lean_reader.specs.Faults.{classed, IsPlaceIn}
-use Rattle.lean_reader.specs.Placed.{IsPlaced, IsBehind, IsWithin}
+use Rattle.lean_reader.specs.Placed.{IsPlaced, IsBehind, IsMisread, IsRaw, IsWithin}
 use Rattle.lean_reader.specs.Reading.{IsRead, IsUnread, IsFault}
 use Rattle.lean_reader.proofs.Derived.{viable}
 
@@ -153,6 +153,13 @@ answered_at ls ms r k e f h = subst (λ (ns : List Lexeme). raw.IsFault N.Text n
 
 pub not_read : (ls ms : List Lexeme) (r : Result RawText ℕ) (k : ℕ) → ms ≡ ls → r ≡ Err k → MatchResult r (λ (text : RawText). ⊤) (λ (place : ℕ). raw.IsNotRead N.Text ms) → raw.IsNotRead N.Text ls
 not_read ls ms r k e f h = subst (λ (ns : List Lexeme). raw.IsNotRead N.Text ns) e (subst (λ (r : Result RawText ℕ). MatchResult r (λ (text : RawText). ⊤) (λ (place : ℕ). raw.IsNotRead N.Text ms)) f h)
+
+-- what those lexemes come to that a call was given
+pub read_as : (ls ms : List Lexeme) (bad : Option Span) (end : ℕ) (r : Result RawText Span) (x : RawText) → ms ≡ ls → r ≡ Ok x → IsRaw ms bad end r → raw.IsRead N.Text ls x
+read_as ls ms bad end r x e f h = subst (λ (ns : List Lexeme). raw.IsRead N.Text ns x) e (subst (IsRaw ms bad end) f h)
+
+pub misread : (ls ms : List Lexeme) (bad : Option Span) (end : ℕ) (r : Result RawText Span) (place : Span) → ms ≡ ls → r ≡ Err place → IsRaw ms bad end r → IsMisread ls bad end place
+misread ls ms bad end r place e f h = subst (λ (ns : List Lexeme). IsMisread ns bad end place) e (subst (IsRaw ms bad end) f h)
 
 -- an error that is handed on
 pub handed_on : (text : List ℕ) (r : Result Defs LeanFault) (x : LeanFault) → IsErrAnd r (λ y. y ≡ x) → IsFault text x → MatchResult r (IsRead text) (IsFault text)

@@ -1,14 +1,15 @@
-ghost use Rattle.std.specs.Prelude.{◌≡◌, ◌<◌, ◌^◌, length, MatchResult};
-ghost use Rattle.lean_reader.specs.Placed.{IsWithin};
+ghost use Rattle.std.specs.Prelude.{◌≡◌, ◌<◌, ◌^◌, length, IfOk, MatchResult};
+ghost use Rattle.lean_reader.specs.Placed.{IsRaw, IsWithin};
 ghost use Rattle.lean_reader.specs.Reading.{IsRead, IsFault};
 
 use crate::places::place_of;
-use aen_base::{NoMem, Span, Which};
+use aen_base::{List, NoMem, Span, Which};
 use pure_ast::Defs;
 use raw_ast::RawText;
 use raw_reader::read_text;
 use std::alloc::Global;
 use text_syntax::{has_few_brackets, lexemes_of};
+use text_table::Lexeme;
 use text_tokens::{Lexemes, lex};
 use text_trees::{SettleFault, definitions_of};
 
@@ -47,11 +48,29 @@ pub fn read_defs(alloc: Global, text: &str) -> Result<Defs, LeanFault>
     let Lexemes { list, fault } = lex(alloc, text)?;
     let has_few = has_few_brackets(list.as_slice());
     let lexemes = lexemes_of(alloc, list)?;
-    match read_text(alloc, lexemes.as_slice())? {
+    match raw_of(alloc, lexemes, fault, text.len())? {
         Ok(raw) => Ok(definitions_within(alloc, &raw, fault, has_few)?),
+        Err(place) => Err(LeanFault::Syntax(place)),
+    }
+}
+
+/// The text that lexemes are read as; where they are none, the place of the first fault of the grammar,
+/// in a text of less than 2^32 bytes, so many. The lexemes are dropped here: what follows needs none.
+/// The only error is want of memory.
+fn raw_of(
+    alloc: Global,
+    lexemes: List<Lexeme>,
+    fault: Option<Span>,
+    end: usize,
+) -> Result<Result<RawText, Span>, NoMem>
+    requires short { end < 2 ^ 32 }
+    ensures { IfOk result (IsRaw lexemes fault end) }
+{
+    match read_text(alloc, lexemes.as_slice())? {
+        Ok(raw) => Ok(Ok(raw)),
         Err(number) => {
-            let place = place_of(lexemes.as_slice(), number, fault, text.len());
-            Err(LeanFault::Syntax(place))
+            let place = place_of(lexemes.as_slice(), number, fault, end);
+            Ok(Err(place))
         }
     }
 }

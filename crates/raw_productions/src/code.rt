@@ -4,7 +4,7 @@ ghost use Rattle.std.specs.Prelude.{◌≡◌, reverse, IfOk};
 ghost use Rattle.text_table.specs.declared.part.Part.TheVariants as N;
 ghost use Rattle.raw_ways.specs.Built.{CanBuild, IsBuilt};
 
-use aen_base::NoMem;
+use aen_base::{Boxed, NoMem};
 use raw_values::front_list::FrontList;
 use raw_values::taking::atoms::{take_atom, take_atoms, take_constructor};
 use raw_values::taking::code::{take_arms, take_bound, take_code, take_computation, take_pattern};
@@ -25,13 +25,13 @@ pub fn code_0(alloc: Global, values: &mut Stack) -> Result<Value, NoMem>
     let variable = take_token(values);
     drop_token(values);
     let value = code::let_code(alloc, variable, bound)?;
-    Ok(Value::Code(value))
+    Ok(Value::Code(Boxed::new(alloc, value)?))
 }
 
-/// `Code` of: OpenBracket Match Atom With Arms.
-pub fn code_1(values: &mut Stack) -> Value
+/// `Code` of: OpenBracket Match Atom With Arms. The only error is want of memory.
+pub fn code_1(alloc: Global, values: &mut Stack) -> Result<Value, NoMem>
     requires { CanBuild N.Code 1 (reverse values.old) }
-    ensures { IsBuilt N.Code 1 (reverse values.old) result (reverse values.new) }
+    ensures { IfOk result (λ it. IsBuilt N.Code 1 (reverse values.old) it (reverse values.new)) }
 {
     let arms = take_arms(values);
     drop_token(values);
@@ -39,43 +39,43 @@ pub fn code_1(values: &mut Stack) -> Value
     drop_token(values);
     drop_token(values);
     let value = code::match_code(atom, arms);
-    Value::Code(value)
+    Ok(Value::Code(Boxed::new(alloc, value)?))
 }
 
-/// `Code` of: Computation.
-pub fn code_2(values: &mut Stack) -> Value
+/// `Code` of: Computation. The only error is want of memory.
+pub fn code_2(alloc: Global, values: &mut Stack) -> Result<Value, NoMem>
     requires { CanBuild N.Code 2 (reverse values.old) }
-    ensures { IsBuilt N.Code 2 (reverse values.old) result (reverse values.new) }
+    ensures { IfOk result (λ it. IsBuilt N.Code 2 (reverse values.old) it (reverse values.new)) }
 {
     let computation = take_computation(values);
     let value = code::last_code(computation);
-    Value::Code(value)
+    Ok(Value::Code(Boxed::new(alloc, value)?))
 }
 
-/// `Bound` of: From Computation Semicolon Code.
-pub fn bound_0(values: &mut Stack) -> Value
+/// `Bound` of: From Computation Semicolon Code. The only error is want of memory.
+pub fn bound_0(alloc: Global, values: &mut Stack) -> Result<Value, NoMem>
     requires { CanBuild N.Bound 0 (reverse values.old) }
-    ensures { IsBuilt N.Bound 0 (reverse values.old) result (reverse values.new) }
+    ensures { IfOk result (λ it. IsBuilt N.Bound 0 (reverse values.old) it (reverse values.new)) }
 {
     let code = take_code(values);
     drop_token(values);
     let computation = take_computation(values);
     drop_token(values);
     let value = code::bound_computation(computation, code);
-    Value::Bound(value)
+    Ok(Value::Bound(Boxed::new(alloc, value)?))
 }
 
-/// `Bound` of: Becomes Atom Semicolon Code.
-pub fn bound_1(values: &mut Stack) -> Value
+/// `Bound` of: Becomes Atom Semicolon Code. The only error is want of memory.
+pub fn bound_1(alloc: Global, values: &mut Stack) -> Result<Value, NoMem>
     requires { CanBuild N.Bound 1 (reverse values.old) }
-    ensures { IsBuilt N.Bound 1 (reverse values.old) result (reverse values.new) }
+    ensures { IfOk result (λ it. IsBuilt N.Bound 1 (reverse values.old) it (reverse values.new)) }
 {
     let code = take_code(values);
     drop_token(values);
     let atom = take_atom(values);
     drop_token(values);
     let value = code::bound_atom(atom, code);
-    Value::Bound(value)
+    Ok(Value::Bound(Boxed::new(alloc, value)?))
 }
 
 /// `Arms` of: CloseBracket.
@@ -103,18 +103,18 @@ pub fn arms_1(values: &mut Stack) -> Result<Value, NoMem>
     Ok(Value::Arms(value))
 }
 
-/// `Pattern` of: Truth.
-pub fn pattern_0(values: &mut Stack) -> Value
+/// `Pattern` of: Truth. The only error is want of memory.
+pub fn pattern_0(alloc: Global, values: &mut Stack) -> Result<Value, NoMem>
     requires { CanBuild N.Pattern 0 (reverse values.old) }
-    ensures { IsBuilt N.Pattern 0 (reverse values.old) result (reverse values.new) }
+    ensures { IfOk result (λ it. IsBuilt N.Pattern 0 (reverse values.old) it (reverse values.new)) }
 {
     let word = take_token(values);
     let value = code::truth_pattern(word);
-    Value::Pattern(value)
+    Ok(Value::Pattern(Boxed::new(alloc, value)?))
 }
 
 /// `Pattern` of: OpenBracket Variable Comma Variable PatternParts. The only error is want of memory.
-pub fn pattern_1(values: &mut Stack) -> Result<Value, NoMem>
+pub fn pattern_1(alloc: Global, values: &mut Stack) -> Result<Value, NoMem>
     requires { CanBuild N.Pattern 1 (reverse values.old) }
     ensures { IfOk result (λ it. IsBuilt N.Pattern 1 (reverse values.old) it (reverse values.new)) }
 {
@@ -124,18 +124,18 @@ pub fn pattern_1(values: &mut Stack) -> Result<Value, NoMem>
     let first = take_token(values);
     drop_token(values);
     let value = code::tuple_pattern(first, second, more)?;
-    Ok(Value::Pattern(value))
+    Ok(Value::Pattern(Boxed::new(alloc, value)?))
 }
 
-/// `Pattern` of: Constructor Variables.
-pub fn pattern_2(values: &mut Stack) -> Value
+/// `Pattern` of: Constructor Variables. The only error is want of memory.
+pub fn pattern_2(alloc: Global, values: &mut Stack) -> Result<Value, NoMem>
     requires { CanBuild N.Pattern 2 (reverse values.old) }
-    ensures { IsBuilt N.Pattern 2 (reverse values.old) result (reverse values.new) }
+    ensures { IfOk result (λ it. IsBuilt N.Pattern 2 (reverse values.old) it (reverse values.new)) }
 {
     let variables = take_names(values);
     let name = take_constructor(values);
     let value = code::built_pattern(name, variables);
-    Value::Pattern(value)
+    Ok(Value::Pattern(Boxed::new(alloc, value)?))
 }
 
 /// `PatternParts` of: CloseBracket.
@@ -160,46 +160,46 @@ pub fn pattern_parts_1(values: &mut Stack) -> Result<Value, NoMem>
     Ok(Value::Names(value))
 }
 
-/// `Computation` of: Ok Atom.
-pub fn computation_0(values: &mut Stack) -> Value
+/// `Computation` of: Ok Atom. The only error is want of memory.
+pub fn computation_0(alloc: Global, values: &mut Stack) -> Result<Value, NoMem>
     requires { CanBuild N.Computation 0 (reverse values.old) }
-    ensures { IsBuilt N.Computation 0 (reverse values.old) result (reverse values.new) }
+    ensures { IfOk result (λ it. IsBuilt N.Computation 0 (reverse values.old) it (reverse values.new)) }
 {
     let atom = take_atom(values);
     drop_token(values);
     let value = code::gives(atom);
-    Value::Computation(value)
+    Ok(Value::Computation(Boxed::new(alloc, value)?))
 }
 
-/// `Computation` of: Fail.
-pub fn computation_1(values: &mut Stack) -> Value
+/// `Computation` of: Fail. The only error is want of memory.
+pub fn computation_1(alloc: Global, values: &mut Stack) -> Result<Value, NoMem>
     requires { CanBuild N.Computation 1 (reverse values.old) }
-    ensures { IsBuilt N.Computation 1 (reverse values.old) result (reverse values.new) }
+    ensures { IfOk result (λ it. IsBuilt N.Computation 1 (reverse values.old) it (reverse values.new)) }
 {
     drop_token(values);
     let value = code::fails();
-    Value::Computation(value)
+    Ok(Value::Computation(Boxed::new(alloc, value)?))
 }
 
-/// `Computation` of: DefinitionName Fuel Atoms.
-pub fn computation_2(values: &mut Stack) -> Value
+/// `Computation` of: DefinitionName Fuel Atoms. The only error is want of memory.
+pub fn computation_2(alloc: Global, values: &mut Stack) -> Result<Value, NoMem>
     requires { CanBuild N.Computation 2 (reverse values.old) }
-    ensures { IsBuilt N.Computation 2 (reverse values.old) result (reverse values.new) }
+    ensures { IfOk result (λ it. IsBuilt N.Computation 2 (reverse values.old) it (reverse values.new)) }
 {
     let atoms = take_atoms(values);
     drop_token(values);
     let name = take_definition_name(values);
     let value = code::calls(name, atoms);
-    Value::Computation(value)
+    Ok(Value::Computation(Boxed::new(alloc, value)?))
 }
 
-/// `Computation` of: Primitive Atoms.
-pub fn computation_3(values: &mut Stack) -> Value
+/// `Computation` of: Primitive Atoms. The only error is want of memory.
+pub fn computation_3(alloc: Global, values: &mut Stack) -> Result<Value, NoMem>
     requires { CanBuild N.Computation 3 (reverse values.old) }
-    ensures { IsBuilt N.Computation 3 (reverse values.old) result (reverse values.new) }
+    ensures { IfOk result (λ it. IsBuilt N.Computation 3 (reverse values.old) it (reverse values.new)) }
 {
     let atoms = take_atoms(values);
     let operation = take_operation(values);
     let value = code::operates(operation, atoms);
-    Value::Computation(value)
+    Ok(Value::Computation(Boxed::new(alloc, value)?))
 }

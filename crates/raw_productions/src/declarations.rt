@@ -4,7 +4,7 @@ ghost use Rattle.std.specs.Prelude.{◌≡◌, reverse, IfOk};
 ghost use Rattle.text_table.specs.declared.part.Part.TheVariants as N;
 ghost use Rattle.raw_ways.specs.Built.{CanBuild, IsBuilt};
 
-use aen_base::NoMem;
+use aen_base::{Boxed, NoMem};
 use raw_values::front_list::FrontList;
 use raw_values::taking::declarations::{
     take_after_name, take_declaration, take_declarations, take_fields, take_names,
@@ -17,10 +17,10 @@ use raw_values::{Stack, Value};
 use raw_ways::{declarations, spelled};
 use std::alloc::Global;
 
-/// `Text` of: Import AenPrelude Open AenPrelude Types Definitions.
-pub fn text_0(values: &mut Stack) -> Value
+/// `Text` of: Import AenPrelude Open AenPrelude Types Definitions. The only error is want of memory.
+pub fn text_0(alloc: Global, values: &mut Stack) -> Result<Value, NoMem>
     requires { CanBuild N.Text 0 (reverse values.old) }
-    ensures { IsBuilt N.Text 0 (reverse values.old) result (reverse values.new) }
+    ensures { IfOk result (λ it. IsBuilt N.Text 0 (reverse values.old) it (reverse values.new)) }
 {
     let definitions = take_definitions(values);
     let types = take_declarations(values);
@@ -29,7 +29,7 @@ pub fn text_0(values: &mut Stack) -> Value
     drop_token(values);
     drop_token(values);
     let value = declarations::text(types, definitions);
-    Value::Text(value)
+    Ok(Value::Text(Boxed::new(alloc, value)?))
 }
 
 /// `Types` of: nothing.
@@ -52,10 +52,10 @@ pub fn types_1(values: &mut Stack) -> Result<Value, NoMem>
     Ok(Value::Declarations(value))
 }
 
-/// `Declaration` of: Inductive Name TypeParameters Where Variants.
-pub fn declaration_0(values: &mut Stack) -> Value
+/// `Declaration` of: Inductive Name TypeParameters Where Variants. The only error is want of memory.
+pub fn declaration_0(alloc: Global, values: &mut Stack) -> Result<Value, NoMem>
     requires { CanBuild N.Declaration 0 (reverse values.old) }
-    ensures { IsBuilt N.Declaration 0 (reverse values.old) result (reverse values.new) }
+    ensures { IfOk result (λ it. IsBuilt N.Declaration 0 (reverse values.old) it (reverse values.new)) }
 {
     let variants = take_variants(values);
     drop_token(values);
@@ -63,13 +63,13 @@ pub fn declaration_0(values: &mut Stack) -> Value
     let name = take_token(values);
     drop_token(values);
     let value = declarations::inductive(name, parameters, variants);
-    Value::Declaration(value)
+    Ok(Value::Declaration(Boxed::new(alloc, value)?))
 }
 
-/// `Declaration` of: Structure Name TypeParameters Where Fields.
-pub fn declaration_1(values: &mut Stack) -> Value
+/// `Declaration` of: Structure Name TypeParameters Where Fields. The only error is want of memory.
+pub fn declaration_1(alloc: Global, values: &mut Stack) -> Result<Value, NoMem>
     requires { CanBuild N.Declaration 1 (reverse values.old) }
-    ensures { IsBuilt N.Declaration 1 (reverse values.old) result (reverse values.new) }
+    ensures { IfOk result (λ it. IsBuilt N.Declaration 1 (reverse values.old) it (reverse values.new)) }
 {
     let fields = take_fields(values);
     drop_token(values);
@@ -77,7 +77,7 @@ pub fn declaration_1(values: &mut Stack) -> Value
     let name = take_token(values);
     drop_token(values);
     let value = declarations::structure(name, parameters, fields);
-    Value::Declaration(value)
+    Ok(Value::Declaration(Boxed::new(alloc, value)?))
 }
 
 /// `TypeParameters` of: nothing.
@@ -128,7 +128,7 @@ pub fn variants_1(values: &mut Stack) -> Result<Value, NoMem>
 }
 
 /// `VariantType` of: OtherType To VariantType. The only error is want of memory.
-pub fn variant_type_0(values: &mut Stack) -> Result<Value, NoMem>
+pub fn variant_type_0(alloc: Global, values: &mut Stack) -> Result<Value, NoMem>
     requires { CanBuild N.VariantType 0 (reverse values.old) }
     ensures { IfOk result (λ it. IsBuilt N.VariantType 0 (reverse values.old) it (reverse values.new)) }
 {
@@ -136,7 +136,7 @@ pub fn variant_type_0(values: &mut Stack) -> Result<Value, NoMem>
     drop_token(values);
     let ty = take_type(values);
     let value = declarations::field_first(ty, rest)?;
-    Ok(Value::VariantRest(value))
+    Ok(Value::VariantRest(Boxed::new(alloc, value)?))
 }
 
 /// `VariantType` of: Name VariantEnd. The only error is want of memory.
@@ -147,38 +147,38 @@ pub fn variant_type_1(alloc: Global, values: &mut Stack) -> Result<Value, NoMem>
     let after = take_after_name(values);
     let name = take_token(values);
     let value = declarations::name_first(alloc, name, after)?;
-    Ok(Value::VariantRest(value))
+    Ok(Value::VariantRest(Boxed::new(alloc, value)?))
 }
 
-/// `VariantEnd` of: nothing.
-pub fn variant_end_0(alloc: Global, values: &mut Stack) -> Value
+/// `VariantEnd` of: nothing. The only error is want of memory.
+pub fn variant_end_0(alloc: Global, values: &mut Stack) -> Result<Value, NoMem>
     requires { CanBuild N.VariantEnd 0 (reverse values.old) }
-    ensures { IsBuilt N.VariantEnd 0 (reverse values.old) result (reverse values.new) }
+    ensures { IfOk result (λ it. IsBuilt N.VariantEnd 0 (reverse values.old) it (reverse values.new)) }
 {
     let value = declarations::ended(alloc);
-    Value::AfterName(value)
+    Ok(Value::AfterName(Boxed::new(alloc, value)?))
 }
 
-/// `VariantEnd` of: To VariantType.
-pub fn variant_end_1(values: &mut Stack) -> Value
+/// `VariantEnd` of: To VariantType. The only error is want of memory.
+pub fn variant_end_1(alloc: Global, values: &mut Stack) -> Result<Value, NoMem>
     requires { CanBuild N.VariantEnd 1 (reverse values.old) }
-    ensures { IsBuilt N.VariantEnd 1 (reverse values.old) result (reverse values.new) }
+    ensures { IfOk result (λ it. IsBuilt N.VariantEnd 1 (reverse values.old) it (reverse values.new)) }
 {
     let rest = take_variant_rest(values);
     drop_token(values);
     let value = declarations::more_fields(rest);
-    Value::AfterName(value)
+    Ok(Value::AfterName(Boxed::new(alloc, value)?))
 }
 
 /// `VariantEnd` of: Name Names. The only error is want of memory.
-pub fn variant_end_2(values: &mut Stack) -> Result<Value, NoMem>
+pub fn variant_end_2(alloc: Global, values: &mut Stack) -> Result<Value, NoMem>
     requires { CanBuild N.VariantEnd 2 (reverse values.old) }
     ensures { IfOk result (λ it. IsBuilt N.VariantEnd 2 (reverse values.old) it (reverse values.new)) }
 {
     let more = take_names(values);
     let name = take_token(values);
     let value = declarations::end_parameters(more.push(spelled(name))?);
-    Ok(Value::AfterName(value))
+    Ok(Value::AfterName(Boxed::new(alloc, value)?))
 }
 
 /// `Names` of: Name Names. The only error is want of memory.

@@ -4,7 +4,7 @@ ghost use Rattle.std.specs.Prelude.{◌≡◌, reverse, IfOk};
 ghost use Rattle.text_table.specs.declared.part.Part.TheVariants as N;
 ghost use Rattle.raw_ways.specs.Built.{CanBuild, IsBuilt};
 
-use aen_base::NoMem;
+use aen_base::{Boxed, NoMem};
 use raw_values::front_list::FrontList;
 use raw_values::taking::code::take_code;
 use raw_values::taking::declarations::{take_fields, take_names};
@@ -38,10 +38,10 @@ pub fn definitions_1(values: &mut Stack) -> Result<Value, NoMem>
     Ok(Value::Definitions(value))
 }
 
-/// `Definition` of: Def DefinitionName ImplicitParameters FuelParameter Parameters Colon Result Type Becomes FuelMatch Code.
-pub fn definition_0(values: &mut Stack) -> Value
+/// `Definition` of: Def DefinitionName ImplicitParameters FuelParameter Parameters Colon Result Type Becomes FuelMatch Code. The only error is want of memory.
+pub fn definition_0(alloc: Global, values: &mut Stack) -> Result<Value, NoMem>
     requires { CanBuild N.Definition 0 (reverse values.old) }
-    ensures { IsBuilt N.Definition 0 (reverse values.old) result (reverse values.new) }
+    ensures { IfOk result (λ it. IsBuilt N.Definition 0 (reverse values.old) it (reverse values.new)) }
 {
     let code = take_code(values);
     take_nothing(values);
@@ -55,7 +55,7 @@ pub fn definition_0(values: &mut Stack) -> Value
     let name = take_definition_name(values);
     drop_token(values);
     let value = definitions::definition(name, type_parameters, parameters, output, code);
-    Value::Definition(value)
+    Ok(Value::Definition(Boxed::new(alloc, value)?))
 }
 
 /// `FuelParameter` of: OpenBracket Fuel Colon Nat CloseBracket.
@@ -92,75 +92,75 @@ pub fn fuel_match_0(values: &mut Stack) -> Value
     Value::Nothing(())
 }
 
-/// `DefinitionName` of: Fn Dot Name NameEnd.
-pub fn definition_name_0(values: &mut Stack) -> Value
+/// `DefinitionName` of: Fn Dot Name NameEnd. The only error is want of memory.
+pub fn definition_name_0(alloc: Global, values: &mut Stack) -> Result<Value, NoMem>
     requires { CanBuild N.DefinitionName 0 (reverse values.old) }
-    ensures { IsBuilt N.DefinitionName 0 (reverse values.old) result (reverse values.new) }
+    ensures { IfOk result (λ it. IsBuilt N.DefinitionName 0 (reverse values.old) it (reverse values.new)) }
 {
     let end = take_name_end(values);
     let name = take_token(values);
     drop_token(values);
     drop_token(values);
     let value = definitions::definition_name(name, end);
-    Value::DefinitionName(value)
+    Ok(Value::DefinitionName(Boxed::new(alloc, value)?))
 }
 
-/// `NameEnd` of: nothing.
-pub fn name_end_0(values: &mut Stack) -> Value
+/// `NameEnd` of: nothing. The only error is want of memory.
+pub fn name_end_0(alloc: Global, values: &mut Stack) -> Result<Value, NoMem>
     requires { CanBuild N.NameEnd 0 (reverse values.old) }
-    ensures { IsBuilt N.NameEnd 0 (reverse values.old) result (reverse values.new) }
+    ensures { IfOk result (λ it. IsBuilt N.NameEnd 0 (reverse values.old) it (reverse values.new)) }
 {
     let value = definitions::no_end();
-    Value::NameEnd(value)
+    Ok(Value::NameEnd(Boxed::new(alloc, value)?))
 }
 
-/// `NameEnd` of: Dot NamePart.
-pub fn name_end_1(values: &mut Stack) -> Value
+/// `NameEnd` of: Dot NamePart. The only error is want of memory.
+pub fn name_end_1(alloc: Global, values: &mut Stack) -> Result<Value, NoMem>
     requires { CanBuild N.NameEnd 1 (reverse values.old) }
-    ensures { IsBuilt N.NameEnd 1 (reverse values.old) result (reverse values.new) }
+    ensures { IfOk result (λ it. IsBuilt N.NameEnd 1 (reverse values.old) it (reverse values.new)) }
 {
     let part = take_name_end(values);
     drop_token(values);
-    Value::NameEnd(part)
+    Ok(Value::NameEnd(Boxed::new(alloc, part)?))
 }
 
-/// `NamePart` of: LoopNumber BackEnd.
-pub fn name_part_0(values: &mut Stack) -> Value
+/// `NamePart` of: LoopNumber BackEnd. The only error is want of memory.
+pub fn name_part_0(alloc: Global, values: &mut Stack) -> Result<Value, NoMem>
     requires { CanBuild N.NamePart 0 (reverse values.old) }
-    ensures { IsBuilt N.NamePart 0 (reverse values.old) result (reverse values.new) }
+    ensures { IfOk result (λ it. IsBuilt N.NamePart 0 (reverse values.old) it (reverse values.new)) }
 {
     let back = take_back_end(values);
     let turn = take_token(values);
     let value = definitions::loop_end(turn, back);
-    Value::NameEnd(value)
+    Ok(Value::NameEnd(Boxed::new(alloc, value)?))
 }
 
-/// `NamePart` of: Back.
-pub fn name_part_1(values: &mut Stack) -> Value
+/// `NamePart` of: Back. The only error is want of memory.
+pub fn name_part_1(alloc: Global, values: &mut Stack) -> Result<Value, NoMem>
     requires { CanBuild N.NamePart 1 (reverse values.old) }
-    ensures { IsBuilt N.NamePart 1 (reverse values.old) result (reverse values.new) }
+    ensures { IfOk result (λ it. IsBuilt N.NamePart 1 (reverse values.old) it (reverse values.new)) }
 {
     let back = take_token(values);
     let value = definitions::back_end(back);
-    Value::NameEnd(value)
+    Ok(Value::NameEnd(Boxed::new(alloc, value)?))
 }
 
-/// `BackEnd` of: nothing.
-pub fn back_end_0(values: &mut Stack) -> Value
+/// `BackEnd` of: nothing. The only error is want of memory.
+pub fn back_end_0(alloc: Global, values: &mut Stack) -> Result<Value, NoMem>
     requires { CanBuild N.BackEnd 0 (reverse values.old) }
-    ensures { IsBuilt N.BackEnd 0 (reverse values.old) result (reverse values.new) }
+    ensures { IfOk result (λ it. IsBuilt N.BackEnd 0 (reverse values.old) it (reverse values.new)) }
 {
     let value = definitions::no_back();
-    Value::BackEnd(value)
+    Ok(Value::BackEnd(Boxed::new(alloc, value)?))
 }
 
-/// `BackEnd` of: Dot Back.
-pub fn back_end_1(values: &mut Stack) -> Value
+/// `BackEnd` of: Dot Back. The only error is want of memory.
+pub fn back_end_1(alloc: Global, values: &mut Stack) -> Result<Value, NoMem>
     requires { CanBuild N.BackEnd 1 (reverse values.old) }
-    ensures { IsBuilt N.BackEnd 1 (reverse values.old) result (reverse values.new) }
+    ensures { IfOk result (λ it. IsBuilt N.BackEnd 1 (reverse values.old) it (reverse values.new)) }
 {
     let back = take_token(values);
     drop_token(values);
     let value = definitions::some_back(back);
-    Value::BackEnd(value)
+    Ok(Value::BackEnd(Boxed::new(alloc, value)?))
 }

@@ -4,7 +4,7 @@ ghost use Rattle.std.specs.Prelude.{◌≡◌, reverse, IfOk};
 ghost use Rattle.text_table.specs.declared.part.Part.TheVariants as N;
 ghost use Rattle.raw_ways.specs.Built.{CanBuild, IsBuilt};
 
-use aen_base::NoMem;
+use aen_base::{Boxed, NoMem};
 use raw_values::front_list::FrontList;
 use raw_values::taking::types::{take_after_type_name, take_type, take_types};
 use raw_values::taking::{drop_token, take_token};
@@ -12,67 +12,67 @@ use raw_values::{Stack, Value};
 use raw_ways::types;
 use std::alloc::Global;
 
-/// `Type` of: OtherType.
-pub fn type_0(values: &mut Stack) -> Value
+/// `Type` of: OtherType. The only error is want of memory.
+pub fn type_0(alloc: Global, values: &mut Stack) -> Result<Value, NoMem>
     requires { CanBuild N.Type 0 (reverse values.old) }
-    ensures { IsBuilt N.Type 0 (reverse values.old) result (reverse values.new) }
+    ensures { IfOk result (λ it. IsBuilt N.Type 0 (reverse values.old) it (reverse values.new)) }
 {
     let ty = take_type(values);
-    Value::Type(ty)
+    Ok(Value::Type(Boxed::new(alloc, ty)?))
 }
 
-/// `Type` of: Name.
-pub fn type_1(alloc: Global, values: &mut Stack) -> Value
+/// `Type` of: Name. The only error is want of memory.
+pub fn type_1(alloc: Global, values: &mut Stack) -> Result<Value, NoMem>
     requires { CanBuild N.Type 1 (reverse values.old) }
-    ensures { IsBuilt N.Type 1 (reverse values.old) result (reverse values.new) }
+    ensures { IfOk result (λ it. IsBuilt N.Type 1 (reverse values.old) it (reverse values.new)) }
 {
     let name = take_token(values);
     let value = types::named_alone(alloc, name);
-    Value::Type(value)
+    Ok(Value::Type(Boxed::new(alloc, value)?))
 }
 
-/// `OtherType` of: Int.
-pub fn other_type_0(values: &mut Stack) -> Value
+/// `OtherType` of: Int. The only error is want of memory.
+pub fn other_type_0(alloc: Global, values: &mut Stack) -> Result<Value, NoMem>
     requires { CanBuild N.OtherType 0 (reverse values.old) }
-    ensures { IsBuilt N.OtherType 0 (reverse values.old) result (reverse values.new) }
+    ensures { IfOk result (λ it. IsBuilt N.OtherType 0 (reverse values.old) it (reverse values.new)) }
 {
     let word = take_token(values);
     let value = types::int_type(word);
-    Value::Type(value)
+    Ok(Value::Type(Boxed::new(alloc, value)?))
 }
 
-/// `OtherType` of: Bool.
-pub fn other_type_1(values: &mut Stack) -> Value
+/// `OtherType` of: Bool. The only error is want of memory.
+pub fn other_type_1(alloc: Global, values: &mut Stack) -> Result<Value, NoMem>
     requires { CanBuild N.OtherType 1 (reverse values.old) }
-    ensures { IsBuilt N.OtherType 1 (reverse values.old) result (reverse values.new) }
+    ensures { IfOk result (λ it. IsBuilt N.OtherType 1 (reverse values.old) it (reverse values.new)) }
 {
     drop_token(values);
     let value = types::bool_type();
-    Value::Type(value)
+    Ok(Value::Type(Boxed::new(alloc, value)?))
 }
 
-/// `OtherType` of: Unit.
-pub fn other_type_2(values: &mut Stack) -> Value
+/// `OtherType` of: Unit. The only error is want of memory.
+pub fn other_type_2(alloc: Global, values: &mut Stack) -> Result<Value, NoMem>
     requires { CanBuild N.OtherType 2 (reverse values.old) }
-    ensures { IsBuilt N.OtherType 2 (reverse values.old) result (reverse values.new) }
+    ensures { IfOk result (λ it. IsBuilt N.OtherType 2 (reverse values.old) it (reverse values.new)) }
 {
     drop_token(values);
     let value = types::unit_type();
-    Value::Type(value)
+    Ok(Value::Type(Boxed::new(alloc, value)?))
 }
 
-/// `OtherType` of: OpenBracket TypeInBrackets.
-pub fn other_type_3(values: &mut Stack) -> Value
+/// `OtherType` of: OpenBracket TypeInBrackets. The only error is want of memory.
+pub fn other_type_3(alloc: Global, values: &mut Stack) -> Result<Value, NoMem>
     requires { CanBuild N.OtherType 3 (reverse values.old) }
-    ensures { IsBuilt N.OtherType 3 (reverse values.old) result (reverse values.new) }
+    ensures { IfOk result (λ it. IsBuilt N.OtherType 3 (reverse values.old) it (reverse values.new)) }
 {
     let ty = take_type(values);
     drop_token(values);
-    Value::Type(ty)
+    Ok(Value::Type(Boxed::new(alloc, ty)?))
 }
 
 /// `TypeInBrackets` of: OtherType Times Type Factors. The only error is want of memory.
-pub fn type_in_brackets_0(values: &mut Stack) -> Result<Value, NoMem>
+pub fn type_in_brackets_0(alloc: Global, values: &mut Stack) -> Result<Value, NoMem>
     requires { CanBuild N.TypeInBrackets 0 (reverse values.old) }
     ensures { IfOk result (λ it. IsBuilt N.TypeInBrackets 0 (reverse values.old) it (reverse values.new)) }
 {
@@ -81,7 +81,7 @@ pub fn type_in_brackets_0(values: &mut Stack) -> Result<Value, NoMem>
     drop_token(values);
     let ty = take_type(values);
     let value = types::product_type(ty, second, more)?;
-    Ok(Value::Type(value))
+    Ok(Value::Type(Boxed::new(alloc, value)?))
 }
 
 /// `TypeInBrackets` of: Exit Type Type CloseBracket. The only error is want of memory.
@@ -94,7 +94,7 @@ pub fn type_in_brackets_1(alloc: Global, values: &mut Stack) -> Result<Value, No
     let broken = take_type(values);
     drop_token(values);
     let value = types::exit_type(alloc, broken, returned)?;
-    Ok(Value::Type(value))
+    Ok(Value::Type(Boxed::new(alloc, value)?))
 }
 
 /// `TypeInBrackets` of: Name AfterTypeName. The only error is want of memory.
@@ -105,7 +105,7 @@ pub fn type_in_brackets_2(alloc: Global, values: &mut Stack) -> Result<Value, No
     let after = take_after_type_name(values);
     let name = take_token(values);
     let value = types::after_name(alloc, name, after)?;
-    Ok(Value::Type(value))
+    Ok(Value::Type(Boxed::new(alloc, value)?))
 }
 
 /// `AfterTypeName` of: Type TypeArguments. The only error is want of memory.

@@ -36,7 +36,7 @@ impl<T> FrontList<T> {
         }
     }
 
-    /// The same items as a plain list.
+    /// The same items as a plain list, with no room left for more.
     pub fn into_list(self) -> List<T>
         ensures { result ≡ self }
     {
@@ -44,6 +44,7 @@ impl<T> FrontList<T> {
             reversed: mut items,
         } = self;
         items.reverse();
+        items.shrink_to_fit();
         List::from_vec(items)
     }
 }

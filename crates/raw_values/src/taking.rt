@@ -66,7 +66,7 @@ pub fn held_text(value: Value) -> RawText
     ensures { value ≡ V.Text result }
 {
     match value {
-        Value::Text(value) => value,
+        Value::Text(value) => value.into_inner(),
         other => {
             discard(other);
             unreachable!()
@@ -80,7 +80,7 @@ pub fn held_type(value: Value) -> RawType
     ensures { value ≡ V.Type result }
 {
     match value {
-        Value::Type(value) => value,
+        Value::Type(value) => value.into_inner(),
         other => {
             discard(other);
             unreachable!()
@@ -94,7 +94,7 @@ pub fn held_atom(value: Value) -> RawAtom
     ensures { value ≡ V.Atom result }
 {
     match value {
-        Value::Atom(value) => value,
+        Value::Atom(value) => value.into_inner(),
         other => {
             discard(other);
             unreachable!()

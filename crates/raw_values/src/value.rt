@@ -2,7 +2,7 @@
 
 use crate::front_list::FrontList;
 use crate::rests::{AfterConstructor, AfterName, AfterTypeName, Bound, NameEnd, VariantRest};
-use aen_base::List;
+use aen_base::{Boxed, List};
 use raw_ast::{
     Computation, Constructor, Declaration, Definition, DefinitionName, Operation, Pattern, RawAtom,
     RawCode, RawText, RawType, Spelling, Variant,
@@ -12,33 +12,33 @@ use text_table::Lexeme;
 /// The value of a part: a variant for each type that parts carry.
 #[derive(Drop)]
 pub enum Value {
-    Text(RawText),
+    Text(Boxed<RawText>),
     Declarations(FrontList<Declaration>),
-    Declaration(Declaration),
+    Declaration(Boxed<Declaration>),
     Names(FrontList<Spelling>),
     Variants(FrontList<Variant>),
-    VariantRest(VariantRest),
-    AfterName(AfterName),
+    VariantRest(Boxed<VariantRest>),
+    AfterName(Boxed<AfterName>),
     Fields(FrontList<(Spelling, RawType)>),
-    Type(RawType),
+    Type(Boxed<RawType>),
     Types(FrontList<RawType>),
     AfterTypeName(AfterTypeName),
     Definitions(FrontList<Definition>),
-    Definition(Definition),
+    Definition(Boxed<Definition>),
     Nothing(()),
-    DefinitionName(DefinitionName),
-    NameEnd(NameEnd),
-    BackEnd(Option<Spelling>),
-    Code(RawCode),
-    Bound(Bound),
+    DefinitionName(Boxed<DefinitionName>),
+    NameEnd(Boxed<NameEnd>),
+    BackEnd(Boxed<Option<Spelling>>),
+    Code(Boxed<RawCode>),
+    Bound(Boxed<Bound>),
     Arms(FrontList<(Pattern, RawCode)>),
-    Pattern(Pattern),
-    Computation(Computation),
+    Pattern(Boxed<Pattern>),
+    Computation(Boxed<Computation>),
     Operation(Operation),
     OperationEnd(Option<Operation>),
-    Atom(RawAtom),
+    Atom(Boxed<RawAtom>),
     Atoms(FrontList<RawAtom>),
-    Constructor(Constructor),
+    Constructor(Boxed<Constructor>),
     AfterConstructor(AfterConstructor),
 }
 

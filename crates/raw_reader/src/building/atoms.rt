@@ -19,8 +19,8 @@ pub(crate) fn build_atom(alloc: Global, index: usize, values: &mut Stack) -> Res
     ensures { IfOk result (λ it. IsBuilt N.Atom index (reverse values.old) it (reverse values.new)) }
 {
     match index {
-        0 => Ok(atom_0(values)),
-        1 => Ok(atom_1(alloc, values)),
+        0 => atom_0(alloc, values),
+        1 => atom_1(alloc, values),
         _ => unreachable!(),
     }
 }
@@ -34,33 +34,41 @@ pub(crate) fn build_plain_atom(
     ensures { IfOk result (λ it. IsBuilt N.PlainAtom index (reverse values.old) it (reverse values.new)) }
 {
     match index {
-        0 => Ok(plain_atom_0(values)),
-        1 => Ok(plain_atom_1(values)),
-        2 => Ok(plain_atom_2(values)),
-        3 => Ok(plain_atom_3(alloc, values)),
-        4 => Ok(plain_atom_4(values)),
+        0 => plain_atom_0(alloc, values),
+        1 => plain_atom_1(alloc, values),
+        2 => plain_atom_2(alloc, values),
+        3 => plain_atom_3(alloc, values),
+        4 => plain_atom_4(alloc, values),
         _ => unreachable!(),
     }
 }
 
-pub(crate) fn build_constructor(index: usize, values: &mut Stack) -> Result<Value, NoMem>
+pub(crate) fn build_constructor(
+    alloc: Global,
+    index: usize,
+    values: &mut Stack,
+) -> Result<Value, NoMem>
     requires { CanBuild N.Constructor index (reverse values.old) }
     ensures { IfOk result (λ it. IsBuilt N.Constructor index (reverse values.old) it (reverse values.new)) }
 {
     match index {
-        0 => Ok(constructor_0(values)),
-        1 => Ok(constructor_1(values)),
+        0 => constructor_0(alloc, values),
+        1 => constructor_1(alloc, values),
         _ => unreachable!(),
     }
 }
 
-pub(crate) fn build_exit_variant(index: usize, values: &mut Stack) -> Result<Value, NoMem>
+pub(crate) fn build_exit_variant(
+    alloc: Global,
+    index: usize,
+    values: &mut Stack,
+) -> Result<Value, NoMem>
     requires { CanBuild N.ExitVariant index (reverse values.old) }
     ensures { IfOk result (λ it. IsBuilt N.ExitVariant index (reverse values.old) it (reverse values.new)) }
 {
     match index {
-        0 => Ok(exit_variant_0(values)),
-        1 => Ok(exit_variant_1(values)),
+        0 => exit_variant_0(alloc, values),
+        1 => exit_variant_1(alloc, values),
         _ => unreachable!(),
     }
 }
@@ -74,7 +82,7 @@ pub(crate) fn build_atom_in_brackets(
     ensures { IfOk result (λ it. IsBuilt N.AtomInBrackets index (reverse values.old) it (reverse values.new)) }
 {
     match index {
-        0 => atom_in_brackets_0(values),
+        0 => atom_in_brackets_0(alloc, values),
         1 => atom_in_brackets_1(alloc, values),
         _ => unreachable!(),
     }

@@ -20,19 +20,19 @@ pub(crate) fn build_code(alloc: Global, index: usize, values: &mut Stack) -> Res
 {
     match index {
         0 => code_0(alloc, values),
-        1 => Ok(code_1(values)),
-        2 => Ok(code_2(values)),
+        1 => code_1(alloc, values),
+        2 => code_2(alloc, values),
         _ => unreachable!(),
     }
 }
 
-pub(crate) fn build_bound(index: usize, values: &mut Stack) -> Result<Value, NoMem>
+pub(crate) fn build_bound(alloc: Global, index: usize, values: &mut Stack) -> Result<Value, NoMem>
     requires { CanBuild N.Bound index (reverse values.old) }
     ensures { IfOk result (λ it. IsBuilt N.Bound index (reverse values.old) it (reverse values.new)) }
 {
     match index {
-        0 => Ok(bound_0(values)),
-        1 => Ok(bound_1(values)),
+        0 => bound_0(alloc, values),
+        1 => bound_1(alloc, values),
         _ => unreachable!(),
     }
 }
@@ -48,14 +48,14 @@ pub(crate) fn build_arms(alloc: Global, index: usize, values: &mut Stack) -> Res
     }
 }
 
-pub(crate) fn build_pattern(index: usize, values: &mut Stack) -> Result<Value, NoMem>
+pub(crate) fn build_pattern(alloc: Global, index: usize, values: &mut Stack) -> Result<Value, NoMem>
     requires { CanBuild N.Pattern index (reverse values.old) }
     ensures { IfOk result (λ it. IsBuilt N.Pattern index (reverse values.old) it (reverse values.new)) }
 {
     match index {
-        0 => Ok(pattern_0(values)),
-        1 => pattern_1(values),
-        2 => Ok(pattern_2(values)),
+        0 => pattern_0(alloc, values),
+        1 => pattern_1(alloc, values),
+        2 => pattern_2(alloc, values),
         _ => unreachable!(),
     }
 }
@@ -90,15 +90,19 @@ pub(crate) fn build_variables(
     }
 }
 
-pub(crate) fn build_computation(index: usize, values: &mut Stack) -> Result<Value, NoMem>
+pub(crate) fn build_computation(
+    alloc: Global,
+    index: usize,
+    values: &mut Stack,
+) -> Result<Value, NoMem>
     requires { CanBuild N.Computation index (reverse values.old) }
     ensures { IfOk result (λ it. IsBuilt N.Computation index (reverse values.old) it (reverse values.new)) }
 {
     match index {
-        0 => Ok(computation_0(values)),
-        1 => Ok(computation_1(values)),
-        2 => Ok(computation_2(values)),
-        3 => Ok(computation_3(values)),
+        0 => computation_0(alloc, values),
+        1 => computation_1(alloc, values),
+        2 => computation_2(alloc, values),
+        3 => computation_3(alloc, values),
         _ => unreachable!(),
     }
 }

@@ -13,12 +13,12 @@ use raw_productions::declarations::{
 use raw_values::{Stack, Value};
 use std::alloc::Global;
 
-pub(crate) fn build_text(index: usize, values: &mut Stack) -> Result<Value, NoMem>
+pub(crate) fn build_text(alloc: Global, index: usize, values: &mut Stack) -> Result<Value, NoMem>
     requires { CanBuild N.Text index (reverse values.old) }
     ensures { IfOk result (λ it. IsBuilt N.Text index (reverse values.old) it (reverse values.new)) }
 {
     match index {
-        0 => Ok(text_0(values)),
+        0 => text_0(alloc, values),
         _ => unreachable!(),
     }
 }
@@ -34,13 +34,17 @@ pub(crate) fn build_types(alloc: Global, index: usize, values: &mut Stack) -> Re
     }
 }
 
-pub(crate) fn build_declaration(index: usize, values: &mut Stack) -> Result<Value, NoMem>
+pub(crate) fn build_declaration(
+    alloc: Global,
+    index: usize,
+    values: &mut Stack,
+) -> Result<Value, NoMem>
     requires { CanBuild N.Declaration index (reverse values.old) }
     ensures { IfOk result (λ it. IsBuilt N.Declaration index (reverse values.old) it (reverse values.new)) }
 {
     match index {
-        0 => Ok(declaration_0(values)),
-        1 => Ok(declaration_1(values)),
+        0 => declaration_0(alloc, values),
+        1 => declaration_1(alloc, values),
         _ => unreachable!(),
     }
 }
@@ -84,7 +88,7 @@ pub(crate) fn build_variant_type(
     ensures { IfOk result (λ it. IsBuilt N.VariantType index (reverse values.old) it (reverse values.new)) }
 {
     match index {
-        0 => variant_type_0(values),
+        0 => variant_type_0(alloc, values),
         1 => variant_type_1(alloc, values),
         _ => unreachable!(),
     }
@@ -99,9 +103,9 @@ pub(crate) fn build_variant_end(
     ensures { IfOk result (λ it. IsBuilt N.VariantEnd index (reverse values.old) it (reverse values.new)) }
 {
     match index {
-        0 => Ok(variant_end_0(alloc, values)),
-        1 => Ok(variant_end_1(values)),
-        2 => variant_end_2(values),
+        0 => variant_end_0(alloc, values),
+        1 => variant_end_1(alloc, values),
+        2 => variant_end_2(alloc, values),
         _ => unreachable!(),
     }
 }

@@ -28,12 +28,16 @@ pub(crate) fn build_definitions(
     }
 }
 
-pub(crate) fn build_definition(index: usize, values: &mut Stack) -> Result<Value, NoMem>
+pub(crate) fn build_definition(
+    alloc: Global,
+    index: usize,
+    values: &mut Stack,
+) -> Result<Value, NoMem>
     requires { CanBuild N.Definition index (reverse values.old) }
     ensures { IfOk result (λ it. IsBuilt N.Definition index (reverse values.old) it (reverse values.new)) }
 {
     match index {
-        0 => Ok(definition_0(values)),
+        0 => definition_0(alloc, values),
         _ => unreachable!(),
     }
 }
@@ -58,45 +62,61 @@ pub(crate) fn build_fuel_match(index: usize, values: &mut Stack) -> Result<Value
     }
 }
 
-pub(crate) fn build_definition_name(index: usize, values: &mut Stack) -> Result<Value, NoMem>
+pub(crate) fn build_definition_name(
+    alloc: Global,
+    index: usize,
+    values: &mut Stack,
+) -> Result<Value, NoMem>
     requires { CanBuild N.DefinitionName index (reverse values.old) }
     ensures { IfOk result (λ it. IsBuilt N.DefinitionName index (reverse values.old) it (reverse values.new)) }
 {
     match index {
-        0 => Ok(definition_name_0(values)),
+        0 => definition_name_0(alloc, values),
         _ => unreachable!(),
     }
 }
 
-pub(crate) fn build_name_end(index: usize, values: &mut Stack) -> Result<Value, NoMem>
+pub(crate) fn build_name_end(
+    alloc: Global,
+    index: usize,
+    values: &mut Stack,
+) -> Result<Value, NoMem>
     requires { CanBuild N.NameEnd index (reverse values.old) }
     ensures { IfOk result (λ it. IsBuilt N.NameEnd index (reverse values.old) it (reverse values.new)) }
 {
     match index {
-        0 => Ok(name_end_0(values)),
-        1 => Ok(name_end_1(values)),
+        0 => name_end_0(alloc, values),
+        1 => name_end_1(alloc, values),
         _ => unreachable!(),
     }
 }
 
-pub(crate) fn build_name_part(index: usize, values: &mut Stack) -> Result<Value, NoMem>
+pub(crate) fn build_name_part(
+    alloc: Global,
+    index: usize,
+    values: &mut Stack,
+) -> Result<Value, NoMem>
     requires { CanBuild N.NamePart index (reverse values.old) }
     ensures { IfOk result (λ it. IsBuilt N.NamePart index (reverse values.old) it (reverse values.new)) }
 {
     match index {
-        0 => Ok(name_part_0(values)),
-        1 => Ok(name_part_1(values)),
+        0 => name_part_0(alloc, values),
+        1 => name_part_1(alloc, values),
         _ => unreachable!(),
     }
 }
 
-pub(crate) fn build_back_end(index: usize, values: &mut Stack) -> Result<Value, NoMem>
+pub(crate) fn build_back_end(
+    alloc: Global,
+    index: usize,
+    values: &mut Stack,
+) -> Result<Value, NoMem>
     requires { CanBuild N.BackEnd index (reverse values.old) }
     ensures { IfOk result (λ it. IsBuilt N.BackEnd index (reverse values.old) it (reverse values.new)) }
 {
     match index {
-        0 => Ok(back_end_0(values)),
-        1 => Ok(back_end_1(values)),
+        0 => back_end_0(alloc, values),
+        1 => back_end_1(alloc, values),
         _ => unreachable!(),
     }
 }

@@ -18,21 +18,25 @@ pub(crate) fn build_type(alloc: Global, index: usize, values: &mut Stack) -> Res
     ensures { IfOk result (λ it. IsBuilt N.Type index (reverse values.old) it (reverse values.new)) }
 {
     match index {
-        0 => Ok(type_0(values)),
-        1 => Ok(type_1(alloc, values)),
+        0 => type_0(alloc, values),
+        1 => type_1(alloc, values),
         _ => unreachable!(),
     }
 }
 
-pub(crate) fn build_other_type(index: usize, values: &mut Stack) -> Result<Value, NoMem>
+pub(crate) fn build_other_type(
+    alloc: Global,
+    index: usize,
+    values: &mut Stack,
+) -> Result<Value, NoMem>
     requires { CanBuild N.OtherType index (reverse values.old) }
     ensures { IfOk result (λ it. IsBuilt N.OtherType index (reverse values.old) it (reverse values.new)) }
 {
     match index {
-        0 => Ok(other_type_0(values)),
-        1 => Ok(other_type_1(values)),
-        2 => Ok(other_type_2(values)),
-        3 => Ok(other_type_3(values)),
+        0 => other_type_0(alloc, values),
+        1 => other_type_1(alloc, values),
+        2 => other_type_2(alloc, values),
+        3 => other_type_3(alloc, values),
         _ => unreachable!(),
     }
 }
@@ -46,7 +50,7 @@ pub(crate) fn build_type_in_brackets(
     ensures { IfOk result (λ it. IsBuilt N.TypeInBrackets index (reverse values.old) it (reverse values.new)) }
 {
     match index {
-        0 => type_in_brackets_0(values),
+        0 => type_in_brackets_0(alloc, values),
         1 => type_in_brackets_1(alloc, values),
         2 => type_in_brackets_2(alloc, values),
         _ => unreachable!(),

@@ -17,7 +17,7 @@ pub fn take_atom(values: &mut Stack) -> RawAtom
     ensures { reverse values.old ≡ I.Part (V.Atom result) ∷ reverse values.new }
 {
     match take_part(values) {
-        Value::Atom(value) => value,
+        Value::Atom(value) => value.into_inner(),
         other => {
             discard(other);
             unreachable!()
@@ -45,7 +45,7 @@ pub fn take_constructor(values: &mut Stack) -> Constructor
     ensures { reverse values.old ≡ I.Part (V.Constructor result) ∷ reverse values.new }
 {
     match take_part(values) {
-        Value::Constructor(value) => value,
+        Value::Constructor(value) => value.into_inner(),
         other => {
             discard(other);
             unreachable!()

@@ -17,7 +17,7 @@ pub fn take_code(values: &mut Stack) -> RawCode
     ensures { reverse values.old ≡ I.Part (V.Code result) ∷ reverse values.new }
 {
     match take_part(values) {
-        Value::Code(value) => value,
+        Value::Code(value) => value.into_inner(),
         other => {
             discard(other);
             unreachable!()
@@ -31,7 +31,7 @@ pub fn take_bound(values: &mut Stack) -> Bound
     ensures { reverse values.old ≡ I.Part (V.Bound result) ∷ reverse values.new }
 {
     match take_part(values) {
-        Value::Bound(value) => value,
+        Value::Bound(value) => value.into_inner(),
         other => {
             discard(other);
             unreachable!()
@@ -59,7 +59,7 @@ pub fn take_pattern(values: &mut Stack) -> Pattern
     ensures { reverse values.old ≡ I.Part (V.Pattern result) ∷ reverse values.new }
 {
     match take_part(values) {
-        Value::Pattern(value) => value,
+        Value::Pattern(value) => value.into_inner(),
         other => {
             discard(other);
             unreachable!()
@@ -73,7 +73,7 @@ pub fn take_computation(values: &mut Stack) -> Computation
     ensures { reverse values.old ≡ I.Part (V.Computation result) ∷ reverse values.new }
 {
     match take_part(values) {
-        Value::Computation(value) => value,
+        Value::Computation(value) => value.into_inner(),
         other => {
             discard(other);
             unreachable!()

@@ -17,7 +17,7 @@ pub fn take_text(values: &mut Stack) -> RawText
     ensures { reverse values.old ≡ I.Part (V.Text result) ∷ reverse values.new }
 {
     match take_part(values) {
-        Value::Text(value) => value,
+        Value::Text(value) => value.into_inner(),
         other => {
             discard(other);
             unreachable!()
@@ -45,7 +45,7 @@ pub fn take_declaration(values: &mut Stack) -> Declaration
     ensures { reverse values.old ≡ I.Part (V.Declaration result) ∷ reverse values.new }
 {
     match take_part(values) {
-        Value::Declaration(value) => value,
+        Value::Declaration(value) => value.into_inner(),
         other => {
             discard(other);
             unreachable!()
@@ -87,7 +87,7 @@ pub fn take_variant_rest(values: &mut Stack) -> VariantRest
     ensures { reverse values.old ≡ I.Part (V.VariantRest result) ∷ reverse values.new }
 {
     match take_part(values) {
-        Value::VariantRest(value) => value,
+        Value::VariantRest(value) => value.into_inner(),
         other => {
             discard(other);
             unreachable!()
@@ -101,7 +101,7 @@ pub fn take_after_name(values: &mut Stack) -> AfterName
     ensures { reverse values.old ≡ I.Part (V.AfterName result) ∷ reverse values.new }
 {
     match take_part(values) {
-        Value::AfterName(value) => value,
+        Value::AfterName(value) => value.into_inner(),
         other => {
             discard(other);
             unreachable!()

@@ -31,7 +31,7 @@ pub fn take_definition(values: &mut Stack) -> Definition
     ensures { reverse values.old ≡ I.Part (V.Definition result) ∷ reverse values.new }
 {
     match take_part(values) {
-        Value::Definition(value) => value,
+        Value::Definition(value) => value.into_inner(),
         other => {
             discard(other);
             unreachable!()
@@ -59,7 +59,7 @@ pub fn take_definition_name(values: &mut Stack) -> DefinitionName
     ensures { reverse values.old ≡ I.Part (V.DefinitionName result) ∷ reverse values.new }
 {
     match take_part(values) {
-        Value::DefinitionName(value) => value,
+        Value::DefinitionName(value) => value.into_inner(),
         other => {
             discard(other);
             unreachable!()
@@ -73,7 +73,7 @@ pub fn take_name_end(values: &mut Stack) -> NameEnd
     ensures { reverse values.old ≡ I.Part (V.NameEnd result) ∷ reverse values.new }
 {
     match take_part(values) {
-        Value::NameEnd(value) => value,
+        Value::NameEnd(value) => value.into_inner(),
         other => {
             discard(other);
             unreachable!()
@@ -87,7 +87,7 @@ pub fn take_back_end(values: &mut Stack) -> Option<Spelling>
     ensures { reverse values.old ≡ I.Part (V.BackEnd result) ∷ reverse values.new }
 {
     match take_part(values) {
-        Value::BackEnd(value) => value,
+        Value::BackEnd(value) => value.into_inner(),
         other => {
             discard(other);
             unreachable!()

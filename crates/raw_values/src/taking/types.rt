@@ -17,7 +17,7 @@ pub fn take_type(values: &mut Stack) -> RawType
     ensures { reverse values.old ≡ I.Part (V.Type result) ∷ reverse values.new }
 {
     match take_part(values) {
-        Value::Type(value) => value,
+        Value::Type(value) => value.into_inner(),
         other => {
             discard(other);
             unreachable!()

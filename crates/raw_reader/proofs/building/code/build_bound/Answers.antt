@@ -1,13 +1,13 @@
 -- What `build_bound` calls builds the part. Written by tools/text_ways.py.
-use Rattle.std.proofs.Common.{reverse, Ok}
+use Rattle.std.proofs.Common.{reverse}
 use Rattle.text_table.specs.declared.part.Part.TheVariants as N
 use Rattle.raw_reader.proofs.Places.{built_at_place}
 use Rattle.raw_reader.proofs.building.code.build_bound.Goals as goal
 
 pub returns-in-0 : goal.returns-in-0
 returns-in-0 c =
-    built_at_place N.Bound c.args.index 0 (reverse c.args.values.now) (reverse c.bound_0.new.values) (Ok c.bound_0.result) c.in-0.is c.bound_0.ensures
+    built_at_place N.Bound c.args.index 0 (reverse c.args.values.now) (reverse c.bound_0.new.values) c.bound_0.result c.in-0.is c.bound_0.ensures
 
 pub returns-in-1 : goal.returns-in-1
 returns-in-1 c =
-    built_at_place N.Bound c.args.index 1 (reverse c.args.values.now) (reverse c.bound_1.new.values) (Ok c.bound_1.result) c.in-1.is c.bound_1.ensures
+    built_at_place N.Bound c.args.index 1 (reverse c.args.values.now) (reverse c.bound_1.new.values) c.bound_1.result c.in-1.is c.bound_1.ensures

@@ -1,5 +1,5 @@
 -- What `build_code` calls builds the part. Written by tools/text_ways.py.
-use Rattle.std.proofs.Common.{reverse, Ok}
+use Rattle.std.proofs.Common.{reverse}
 use Rattle.text_table.specs.declared.part.Part.TheVariants as N
 use Rattle.raw_reader.proofs.Places.{built_at_place}
 use Rattle.raw_reader.proofs.building.code.build_code.Goals as goal
@@ -10,8 +10,8 @@ returns-in-0 c =
 
 pub returns-in-1 : goal.returns-in-1
 returns-in-1 c =
-    built_at_place N.Code c.args.index 1 (reverse c.args.values.now) (reverse c.code_1.new.values) (Ok c.code_1.result) c.in-1.is c.code_1.ensures
+    built_at_place N.Code c.args.index 1 (reverse c.args.values.now) (reverse c.code_1.new.values) c.code_1.result c.in-1.is c.code_1.ensures
 
 pub returns-in-2 : goal.returns-in-2
 returns-in-2 c =
-    built_at_place N.Code c.args.index 2 (reverse c.args.values.now) (reverse c.code_2.new.values) (Ok c.code_2.result) c.in-2.is c.code_2.ensures
+    built_at_place N.Code c.args.index 2 (reverse c.args.values.now) (reverse c.code_2.new.values) c.code_2.result c.in-2.is c.code_2.ensures

@@ -1,9 +1,9 @@
 -- What `build_definition` calls builds the part. Written by tools/text_ways.py.
-use Rattle.std.proofs.Common.{reverse, Ok}
+use Rattle.std.proofs.Common.{reverse}
 use Rattle.text_table.specs.declared.part.Part.TheVariants as N
 use Rattle.raw_reader.proofs.Places.{built_at_place}
 use Rattle.raw_reader.proofs.building.definitions.build_definition.Goals as goal
 
 pub returns : goal.returns
 returns c =
-    built_at_place N.Definition c.args.index 0 (reverse c.args.values.now) (reverse c.definition_0.new.values) (Ok c.definition_0.result) c.in-0.is c.definition_0.ensures
+    built_at_place N.Definition c.args.index 0 (reverse c.args.values.now) (reverse c.definition_0.new.values) c.definition_0.result c.in-0.is c.definition_0.ensures
