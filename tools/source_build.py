@@ -36,6 +36,12 @@ def snake(name):
     return re.sub(r"(?<=[a-z])([A-Z])", r"_\1", name).lower()
 
 
+def unboxed(code):
+    """The type of what a variant holds, and whether it holds that in a box."""
+    boxed = re.match(r"Boxed<(.*)>$", code)
+    return (boxed.group(1), True) if boxed else (code, False)
+
+
 def load(path):
     values = {}
     exec(open(os.path.join(HERE, path), encoding="utf-8").read(), values)
@@ -121,10 +127,15 @@ class Machine:
         self.beside = {part: place for place, parts in given["BESIDE"].items() for part in parts.split()}
         self.stands_in = {place: crate for crate, places in given["STANDS_IN"].items() for place in places.split()}
         self.variant_of = {carried: name for name, carried, _ in self.variants}
-        self.code_of = {name: code for name, _, code in self.variants}
+        self.read_boxes()
         self.read_carriers()
         self.read_signatures()
         self.share()
+
+    def read_boxes(self):
+        """A variant whose type in code is `Boxed<T>` holds a box; it is taken off, and given, as a `T`."""
+        self.boxed = {name for name, _, code in self.variants if unboxed(code)[1]}
+        self.code_of = {name: unboxed(code)[0] for name, _, code in self.variants}
 
     def read_carriers(self):
         text = open(os.path.join(WAYS, "specs", "Carriers.antt"), encoding="utf-8").read()
@@ -174,6 +185,8 @@ class Machine:
                 kinds = [self.variant(s) for s in symbols]
                 way = self.way(text, kinds, values)
                 result = self.variant(("part", name, values))
+                way.boxes = result in self.boxed
+                way.fallible = way.fallible or way.boxes
                 code = way.code
                 for i, n in enumerate(way.names):
                     code = re.sub(rf"(?<![\w.:]){n}(?![\w(:])", f"#{i}", code)
@@ -194,8 +207,12 @@ class Machine:
         open(path, "w", encoding="utf-8").write(text)
 
     def holds(self, code):
-        """A value in code, as its variant has it."""
+        """A value in code, as it is taken off."""
         return f"Spanned<{code}>"
+
+    def put(self, result, value):
+        """A value in its variant."""
+        return f"Value::{result}(Boxed::new(alloc, {value})?)" if result in self.boxed else f"Value::{result}({value})"
 
     def body(self, way, kinds, result):
         """The statements before a value is there that a production builds, and that value."""
@@ -207,8 +224,8 @@ class Machine:
             extent = f"join({where}, {extent})"
         body = takes + [f"    let extent = {extent};"] if kinds else ["    let extent = None;"]
         if way.code in way.names or way.code.endswith(".value"):
-            return body, f"Value::{result}(Spanned {{ value: {way.code}, extent }})"
-        return body + [f"    let value = {way.code};"], f"Value::{result}(Spanned {{ value, extent }})"
+            return body, self.put(result, f"Spanned {{ value: {way.code}, extent }}")
+        return body + [f"    let value = {way.code};"], self.put(result, "Spanned { value, extent }")
 
     def uses(self, text, more=()):
         lines = list(more)
@@ -249,7 +266,7 @@ def made_function(machine, entry):
     part = machine.part(name, values)
     body, value = machine.body(way, kinds, result)
     body.append(f"    Ok({value})" if way.fallible else f"    {value}")
-    alloc = "alloc: Global, " if re.search(r"\balloc\b", way.code) else ""
+    alloc = "alloc: Global, " if way_uses_alloc(way) else ""
     built = f"IsBuilt {part} {place} (reverse values.old)"
     doc = f"/// `{snake_doc(name, values)}` of: {production(machine, name, values, place)}."
     if way.fallible:
@@ -275,11 +292,12 @@ def made_files(machine):
 
 
 def write_value(machine):
-    lines = [f"    {name}({machine.holds(code)})," for name, _, code in machine.variants]
+    lines = [f"    {name}({f'Boxed<{held}>' if name in machine.boxed else held}),"
+             for name, held in ((name, machine.holds(machine.code_of[name])) for name, _, _ in machine.variants)]
     text = ("/// The value of a part, with its extent: a variant for each type that parts carry.\n#[derive(Drop)]\npub enum Value {\n"
             + "\n".join(lines) + "\n}\n\n/// The values of symbols, the newest last.\npub type Stack = List<table_reader::Item<Lexeme, Value>>;\n")
     machine.write(VALUES, "src/value.rt", "//! What is held of each part. Written by tools/source_build.py.\n\n"
-          + machine.uses(text, ["use aen_base::List;"]) + "\n" + text)
+          + machine.uses(text) + "\n" + text)
 
 
 TAKING = '''//! Values of symbols, taken off the stack. Written by tools/source_build.py.
@@ -346,11 +364,12 @@ ghost use Rattle.source_values.specs.Stacked.{Has};
 '''
 
 
-def only(name, taken):
+def only(machine, name, taken):
     """The value of this variant, where no other can be."""
+    value = "value.into_inner()" if name in machine.boxed else "value"
     return f'''{{
     match {taken} {{
-        Value::{name}(value) => value,
+        Value::{name}(value) => {value},
         other => {{
             discard(other);
             unreachable!()
@@ -368,20 +387,20 @@ def write_taking(machine):
 pub fn held_{snake(name)}(value: Value) -> {machine.holds(machine.code_of[name])}
     requires {{ Is V.{name} value }}
     ensures {{ value ≡ V.{name} result }}
-''' + only(name, "value")
+''' + only(machine, name, "value")
     subjects = "".join(f"pub mod {s};\n" for s in sorted(machine.taking))
     head, uses = TAKING.split("\n\n", 1)
     machine.write(VALUES, "src/taking.rt", head + "\n\n" + subjects + "\n" + uses
           + machine.uses(text, ["use crate::value::{Stack, Value};"]) + text)
     for subject, variants in machine.taking.items():
         text = ""
-        for name, _, code in variants:
+        for name, _, _ in variants:
             text += f'''
 /// Takes the value of a part off that is held as `{name}`.
-pub fn take_{snake(name)}(values: &mut Stack) -> {machine.holds(code)}
+pub fn take_{snake(name)}(values: &mut Stack) -> {machine.holds(machine.code_of[name])}
     requires {{ Has V.{name} (reverse values.old) }}
     ensures {{ reverse values.old ≡ I.Part (V.{name} result) ∷ reverse values.new }}
-''' + only(name, "take_part(values)")
+''' + only(machine, name, "take_part(values)")
         machine.write(VALUES, f"src/taking/{subject}.rt",
               f"//! Values of parts of {subject}, taken off the stack. Written by tools/source_build.py.\n\n" + TAKING_PARTS
               + machine.uses(text, ["use crate::taking::{discard, take_part};", "use crate::value::{Stack, Value};"]) + text)
@@ -461,9 +480,13 @@ class Arm:
         self.case, self.name, self.call, self.fallible, self.own, self.levels = case, name, call, fallible, own, levels
 
 
+def way_uses_alloc(way):
+    return way.boxes or re.search(r"\balloc\b", way.code)
+
+
 def calls(entry):
     at, _, _, _, _, way, _, _ = entry
-    alloc = "alloc, " if re.search(r"\balloc\b", way.code) else ""
+    alloc = "alloc, " if way_uses_alloc(way) else ""
     return at, f"{at}({alloc}values)", way.fallible
 
 

@@ -54,7 +54,7 @@ IMPORTS = {
     "raw_values::front_list": "FrontList",
     "raw_values::rests": "AfterConstructor AfterName AfterTypeName Bound NameEnd VariantRest",
     "raw_ways": "spelled",
-    "aen_base": "NoMem",
+    "aen_base": "Boxed List NoMem",
     "raw_ast": "Computation Constructor Declaration Definition DefinitionName Operation Pattern RawAtom RawCode RawText RawType Spelling Variant",
     "text_table": "Lexeme Part",
     "std::alloc": "Global",

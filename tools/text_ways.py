@@ -118,7 +118,7 @@ class TextMachine(source_build.Machine):
         self.variants = [v for variants in self.taking.values() for v in variants]
         self.subject_of = {f"take_{snake(name)}": subject for subject, rows in kinds.items() for name, *_ in rows}
         self.variant_of = {carried: name for name, carried, _ in self.variants}
-        self.code_of = {name: code for name, _, code in self.variants}
+        self.read_boxes()
         carried = {part: carried for rows in kinds.values() for _, _, carried, parts in rows for part in parts.split()}
         self.carried = {part: carried[part] for part in self.grammar.parts}
         self.ways = {}
@@ -147,8 +147,8 @@ class TextMachine(source_build.Machine):
             call = f"{'drop_token' if (name, kind) == ('_', TOKEN) else 'take_' + snake(kind)}(values)"
             lines.append(f"    {call};" if name == "_" else f"    let {name} = {call};")
         if way.code in way.names or way.code == "()":
-            return lines, f"Value::{result}({way.code})"
-        return lines + [f"    let value = {way.code};"], f"Value::{result}(value)"
+            return lines, self.put(result, way.code)
+        return lines + [f"    let value = {way.code};"], self.put(result, "value")
 
     def write(self, crate, path, text):
         crate, renamed = RENAMED[crate]
