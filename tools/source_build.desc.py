@@ -1,11 +1,12 @@
 """What the reader of sources holds of each part: what `source_build.py` reads."""
 
-# A variant for each type that parts carry (specs/Carriers.antt), and that type in code, by subject.
+# A variant for each type that parts carry (specs/Carriers.antt), and that type in code, by subject. What is larger than an
+# expression with what stands beside it is in a box, since each push and pop of the stack moves the size of the largest.
 VARIANTS = {
     "items": """
         Items = List Item = FrontList<Item>
         Nothing = Unit {0} = ()
-        Item = Item = Item
+        Item = Item = Boxed<Item>
         Generics = Generics = Generics
         Idents = List Ident = FrontList<Ident>
         Param = Param = Param
@@ -26,8 +27,8 @@ VARIANTS = {
     "blocks": """
         Block = s.Block = Block
         Body = Body = Body
-        MaybeBody = Option Body = Option<Body>
-        Conditional = Conditional = Conditional
+        MaybeBody = Option Body = Boxed<Option<Body>>
+        Conditional = Conditional = Boxed<Conditional>
         Arms = List (p.Pat × s.Expr) = FrontList<(Pat, Expr)>
         ArmBody = ArmBody = ArmBody
         """,

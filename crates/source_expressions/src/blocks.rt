@@ -4,7 +4,7 @@ ghost use Rattle.std.specs.Prelude.{◌≡◌, reverse, IfOk};
 ghost use Rattle.source_grammar.specs.declared.part.Part.TheVariants as N;
 ghost use Rattle.source_values.specs.Stacked.{CanBuild, IsBuilt};
 
-use aen_base::NoMem;
+use aen_base::{Boxed, NoMem};
 use source_values::taking::blocks::{
     take_arm_body, take_arms, take_block, take_body, take_conditional, take_maybe_body,
 };
@@ -130,38 +130,38 @@ pub fn more_statements_3(alloc: Global, values: &mut Stack) -> Result<Value, NoM
     Ok(Value::Body(Spanned { value, extent }))
 }
 
-/// `AfterBlockLike` of: CloseBrace.
-pub fn after_block_like_0(values: &mut Stack) -> Value
+/// `AfterBlockLike` of: CloseBrace. The only error is want of memory.
+pub fn after_block_like_0(alloc: Global, values: &mut Stack) -> Result<Value, NoMem>
     requires { CanBuild N.AfterBlockLike 0 (reverse values.old) }
-    ensures { IsBuilt N.AfterBlockLike 0 (reverse values.old) result (reverse values.new) }
+    ensures { IfOk result (λ it. IsBuilt N.AfterBlockLike 0 (reverse values.old) it (reverse values.new)) }
 {
     let mark = take_mark(values);
     let extent = join(Some(mark), None);
     let value = None;
-    Value::MaybeBody(Spanned { value, extent })
+    Ok(Value::MaybeBody(Boxed::new(alloc, Spanned { value, extent })?))
 }
 
-/// `AfterBlockLike` of: MoreStatements.
-pub fn after_block_like_1(values: &mut Stack) -> Value
+/// `AfterBlockLike` of: MoreStatements. The only error is want of memory.
+pub fn after_block_like_1(alloc: Global, values: &mut Stack) -> Result<Value, NoMem>
     requires { CanBuild N.AfterBlockLike 1 (reverse values.old) }
-    ensures { IsBuilt N.AfterBlockLike 1 (reverse values.old) result (reverse values.new) }
+    ensures { IfOk result (λ it. IsBuilt N.AfterBlockLike 1 (reverse values.old) it (reverse values.new)) }
 {
     let body = take_body(values);
     let extent = join(body.extent, None);
     let value = Some(body.value);
-    Value::MaybeBody(Spanned { value, extent })
+    Ok(Value::MaybeBody(Boxed::new(alloc, Spanned { value, extent })?))
 }
 
-/// `AfterExpression` of: Semicolon Statements.
-pub fn after_expression_1(values: &mut Stack) -> Value
+/// `AfterExpression` of: Semicolon Statements. The only error is want of memory.
+pub fn after_expression_1(alloc: Global, values: &mut Stack) -> Result<Value, NoMem>
     requires { CanBuild N.AfterExpression 1 (reverse values.old) }
-    ensures { IsBuilt N.AfterExpression 1 (reverse values.old) result (reverse values.new) }
+    ensures { IfOk result (λ it. IsBuilt N.AfterExpression 1 (reverse values.old) it (reverse values.new)) }
 {
     let body = take_body(values);
     let mark = take_mark(values);
     let extent = join(Some(mark), join(body.extent, None));
     let value = Some(body.value);
-    Value::MaybeBody(Spanned { value, extent })
+    Ok(Value::MaybeBody(Boxed::new(alloc, Spanned { value, extent })?))
 }
 
 /// `LetValue` of: nothing.
@@ -254,22 +254,22 @@ pub fn block_like_4(alloc: Global, values: &mut Stack) -> Result<Value, NoMem>
     Ok(Value::Expr(Spanned { value, extent }))
 }
 
-/// `AfterWhile` of: Expression(Condition) Block.
-pub fn after_while_0(values: &mut Stack) -> Value
+/// `AfterWhile` of: Expression(Condition) Block. The only error is want of memory.
+pub fn after_while_0(alloc: Global, values: &mut Stack) -> Result<Value, NoMem>
     requires { CanBuild N.AfterWhile 0 (reverse values.old) }
-    ensures { IsBuilt N.AfterWhile 0 (reverse values.old) result (reverse values.new) }
+    ensures { IfOk result (λ it. IsBuilt N.AfterWhile 0 (reverse values.old) it (reverse values.new)) }
 {
     let body = take_block(values);
     let e = take_expr(values);
     let extent = join(e.extent, join(body.extent, None));
     let value = blocks::holds(e, body, None);
-    Value::Conditional(Spanned { value, extent })
+    Ok(Value::Conditional(Boxed::new(alloc, Spanned { value, extent })?))
 }
 
-/// `AfterWhile` of: Let Pattern Equals Expression(Condition) Block.
-pub fn after_while_1(values: &mut Stack) -> Value
+/// `AfterWhile` of: Let Pattern Equals Expression(Condition) Block. The only error is want of memory.
+pub fn after_while_1(alloc: Global, values: &mut Stack) -> Result<Value, NoMem>
     requires { CanBuild N.AfterWhile 1 (reverse values.old) }
-    ensures { IsBuilt N.AfterWhile 1 (reverse values.old) result (reverse values.new) }
+    ensures { IfOk result (λ it. IsBuilt N.AfterWhile 1 (reverse values.old) it (reverse values.new)) }
 {
     let body = take_block(values);
     let e = take_expr(values);
@@ -284,7 +284,7 @@ pub fn after_while_1(values: &mut Stack) -> Value
         ),
     );
     let value = blocks::matches(pat, e, body, None);
-    Value::Conditional(Spanned { value, extent })
+    Ok(Value::Conditional(Boxed::new(alloc, Spanned { value, extent })?))
 }
 
 /// `If` of: If AfterIf. The only error is want of memory.
@@ -299,23 +299,23 @@ pub fn if_0(alloc: Global, values: &mut Stack) -> Result<Value, NoMem>
     Ok(Value::Expr(Spanned { value, extent }))
 }
 
-/// `AfterIf` of: Expression(Condition) Block Else.
-pub fn after_if_0(values: &mut Stack) -> Value
+/// `AfterIf` of: Expression(Condition) Block Else. The only error is want of memory.
+pub fn after_if_0(alloc: Global, values: &mut Stack) -> Result<Value, NoMem>
     requires { CanBuild N.AfterIf 0 (reverse values.old) }
-    ensures { IsBuilt N.AfterIf 0 (reverse values.old) result (reverse values.new) }
+    ensures { IfOk result (λ it. IsBuilt N.AfterIf 0 (reverse values.old) it (reverse values.new)) }
 {
     let other = take_maybe_expr(values);
     let body = take_block(values);
     let e = take_expr(values);
     let extent = join(e.extent, join(body.extent, join(other.extent, None)));
     let value = blocks::holds(e, body, other.value);
-    Value::Conditional(Spanned { value, extent })
+    Ok(Value::Conditional(Boxed::new(alloc, Spanned { value, extent })?))
 }
 
-/// `AfterIf` of: Let Pattern Equals Expression(Condition) Block Else.
-pub fn after_if_1(values: &mut Stack) -> Value
+/// `AfterIf` of: Let Pattern Equals Expression(Condition) Block Else. The only error is want of memory.
+pub fn after_if_1(alloc: Global, values: &mut Stack) -> Result<Value, NoMem>
     requires { CanBuild N.AfterIf 1 (reverse values.old) }
-    ensures { IsBuilt N.AfterIf 1 (reverse values.old) result (reverse values.new) }
+    ensures { IfOk result (λ it. IsBuilt N.AfterIf 1 (reverse values.old) it (reverse values.new)) }
 {
     let other = take_maybe_expr(values);
     let body = take_block(values);
@@ -334,7 +334,7 @@ pub fn after_if_1(values: &mut Stack) -> Value
         ),
     );
     let value = blocks::matches(pat, e, body, other.value);
-    Value::Conditional(Spanned { value, extent })
+    Ok(Value::Conditional(Boxed::new(alloc, Spanned { value, extent })?))
 }
 
 /// `Arms` of: CloseBrace.

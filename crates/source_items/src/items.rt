@@ -4,7 +4,7 @@ ghost use Rattle.std.specs.Prelude.{◌≡◌, reverse, IfOk};
 ghost use Rattle.source_grammar.specs.declared.part.Part.TheVariants as N;
 ghost use Rattle.source_values.specs.Stacked.{CanBuild, IsBuilt};
 
-use aen_base::NoMem;
+use aen_base::{Boxed, NoMem};
 use source_values::taking::blocks::take_block;
 use source_values::taking::items::{
     take_fields, take_generics, take_idents, take_item, take_items, take_nothing, take_params,
@@ -143,52 +143,61 @@ pub fn attribute_0(values: &mut Stack) -> Value
     Value::Nothing(Spanned { value, extent })
 }
 
-/// `Attributed` of: Hash Attribute Attributed.
-pub fn attributed_0(values: &mut Stack) -> Value
+/// `Attributed` of: Hash Attribute Attributed. The only error is want of memory.
+pub fn attributed_0(alloc: Global, values: &mut Stack) -> Result<Value, NoMem>
     requires { CanBuild N.Attributed 0 (reverse values.old) }
-    ensures { IsBuilt N.Attributed 0 (reverse values.old) result (reverse values.new) }
+    ensures { IfOk result (λ it. IsBuilt N.Attributed 0 (reverse values.old) it (reverse values.new)) }
 {
     let item = take_item(values);
     let nothing = take_nothing(values);
     let mark = take_mark(values);
     let extent = join(Some(mark), join(nothing.extent, join(item.extent, None)));
-    Value::Item(Spanned {
-        value: item.value,
-        extent,
-    })
+    Ok(Value::Item(Boxed::new(
+        alloc,
+        Spanned {
+            value: item.value,
+            extent,
+        },
+    )?))
 }
 
-/// `Attributed` of: Pub Declaration.
-pub fn attributed_1(values: &mut Stack) -> Value
+/// `Attributed` of: Pub Declaration. The only error is want of memory.
+pub fn attributed_1(alloc: Global, values: &mut Stack) -> Result<Value, NoMem>
     requires { CanBuild N.Attributed 1 (reverse values.old) }
-    ensures { IsBuilt N.Attributed 1 (reverse values.old) result (reverse values.new) }
+    ensures { IfOk result (λ it. IsBuilt N.Attributed 1 (reverse values.old) it (reverse values.new)) }
 {
     let item = take_item(values);
     let mark = take_mark(values);
     let extent = join(Some(mark), join(item.extent, None));
-    Value::Item(Spanned {
-        value: item.value,
-        extent,
-    })
+    Ok(Value::Item(Boxed::new(
+        alloc,
+        Spanned {
+            value: item.value,
+            extent,
+        },
+    )?))
 }
 
-/// `Attributed` of: Declaration.
-pub fn attributed_2(values: &mut Stack) -> Value
+/// `Attributed` of: Declaration. The only error is want of memory.
+pub fn attributed_2(alloc: Global, values: &mut Stack) -> Result<Value, NoMem>
     requires { CanBuild N.Attributed 2 (reverse values.old) }
-    ensures { IsBuilt N.Attributed 2 (reverse values.old) result (reverse values.new) }
+    ensures { IfOk result (λ it. IsBuilt N.Attributed 2 (reverse values.old) it (reverse values.new)) }
 {
     let item = take_item(values);
     let extent = join(item.extent, None);
-    Value::Item(Spanned {
-        value: item.value,
-        extent,
-    })
+    Ok(Value::Item(Boxed::new(
+        alloc,
+        Spanned {
+            value: item.value,
+            extent,
+        },
+    )?))
 }
 
-/// `Item` of: Use Std Colons Mem Semicolon.
-pub fn item_2(values: &mut Stack) -> Value
+/// `Item` of: Use Std Colons Mem Semicolon. The only error is want of memory.
+pub fn item_2(alloc: Global, values: &mut Stack) -> Result<Value, NoMem>
     requires { CanBuild N.Item 2 (reverse values.old) }
-    ensures { IsBuilt N.Item 2 (reverse values.old) result (reverse values.new) }
+    ensures { IfOk result (λ it. IsBuilt N.Item 2 (reverse values.old) it (reverse values.new)) }
 {
     let fifth_mark = take_mark(values);
     let fourth_mark = take_mark(values);
@@ -206,7 +215,7 @@ pub fn item_2(values: &mut Stack) -> Value
         ),
     );
     let value = items::use_mem();
-    Value::Item(Spanned { value, extent })
+    Ok(Value::Item(Boxed::new(alloc, Spanned { value, extent })?))
 }
 
 /// `Declaration` of: Fn Identifier Generics OpenBracket List(Parameters) Result Block. The only error is want of memory.
@@ -245,7 +254,7 @@ pub fn declaration_0(alloc: Global, values: &mut Stack) -> Result<Value, NoMem>
         output,
         body,
     )?;
-    Ok(Value::Item(Spanned { value, extent }))
+    Ok(Value::Item(Boxed::new(alloc, Spanned { value, extent })?))
 }
 
 /// `Declaration` of: Struct Identifier TypeParameters StructBody. The only error is want of memory.
@@ -265,7 +274,7 @@ pub fn declaration_1(alloc: Global, values: &mut Stack) -> Result<Value, NoMem>
         ),
     );
     let value = items::structure(alloc, span_of(extent), word, name, params, fields)?;
-    Ok(Value::Item(Spanned { value, extent }))
+    Ok(Value::Item(Boxed::new(alloc, Spanned { value, extent })?))
 }
 
 /// `Declaration` of: Enum Identifier TypeParameters OpenBrace List(Variants). The only error is want of memory.
@@ -289,7 +298,7 @@ pub fn declaration_2(alloc: Global, values: &mut Stack) -> Result<Value, NoMem>
         ),
     );
     let value = items::enumeration(alloc, span_of(extent), word, name, params, brace, variants)?;
-    Ok(Value::Item(Spanned { value, extent }))
+    Ok(Value::Item(Boxed::new(alloc, Spanned { value, extent })?))
 }
 
 /// `Parameter` of: Mut Identifier Colon Type. The only error is want of memory.

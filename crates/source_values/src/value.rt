@@ -1,6 +1,6 @@
 //! What is held of each part. Written by tools/source_build.py.
 
-use aen_base::{IntTy, List, Name, Span};
+use aen_base::{Boxed, IntTy, List, Name, Span};
 use rust_ast::Ident;
 use rust_ast::program::{Fields, Item, Param, Variant};
 use rust_ast::source::{Block, Expr};
@@ -20,7 +20,7 @@ use source_ways::spanned::Spanned;
 pub enum Value {
     Items(Spanned<FrontList<Item>>),
     Nothing(Spanned<()>),
-    Item(Spanned<Item>),
+    Item(Boxed<Spanned<Item>>),
     Generics(Spanned<Generics>),
     Idents(Spanned<FrontList<Ident>>),
     Param(Spanned<Param>),
@@ -37,8 +37,8 @@ pub enum Value {
     Truth(Spanned<bool>),
     Block(Spanned<Block>),
     Body(Spanned<Body>),
-    MaybeBody(Spanned<Option<Body>>),
-    Conditional(Spanned<Conditional>),
+    MaybeBody(Boxed<Spanned<Option<Body>>>),
+    Conditional(Boxed<Spanned<Conditional>>),
     Arms(Spanned<FrontList<(Pat, Expr)>>),
     ArmBody(Spanned<ArmBody>),
     Expr(Spanned<Expr>),

@@ -58,24 +58,32 @@ pub(crate) fn build_more_statements(
     }
 }
 
-pub(crate) fn build_after_block_like(index: usize, values: &mut Stack) -> Result<Value, NoMem>
+pub(crate) fn build_after_block_like(
+    alloc: Global,
+    index: usize,
+    values: &mut Stack,
+) -> Result<Value, NoMem>
     requires { CanBuild N.AfterBlockLike index (reverse values.old) }
     ensures { IfOk result (λ it. IsBuilt N.AfterBlockLike index (reverse values.old) it (reverse values.new)) }
 {
     match index {
-        0 => Ok(after_block_like_0(values)),
-        1 => Ok(after_block_like_1(values)),
+        0 => after_block_like_0(alloc, values),
+        1 => after_block_like_1(alloc, values),
         _ => unreachable!(),
     }
 }
 
-pub(crate) fn build_after_expression(index: usize, values: &mut Stack) -> Result<Value, NoMem>
+pub(crate) fn build_after_expression(
+    alloc: Global,
+    index: usize,
+    values: &mut Stack,
+) -> Result<Value, NoMem>
     requires { CanBuild N.AfterExpression index (reverse values.old) }
     ensures { IfOk result (λ it. IsBuilt N.AfterExpression index (reverse values.old) it (reverse values.new)) }
 {
     match index {
-        0 => Ok(after_block_like_0(values)),
-        1 => Ok(after_expression_1(values)),
+        0 => after_block_like_0(alloc, values),
+        1 => after_expression_1(alloc, values),
         _ => unreachable!(),
     }
 }
@@ -120,13 +128,17 @@ pub(crate) fn build_block_like(
     }
 }
 
-pub(crate) fn build_after_while(index: usize, values: &mut Stack) -> Result<Value, NoMem>
+pub(crate) fn build_after_while(
+    alloc: Global,
+    index: usize,
+    values: &mut Stack,
+) -> Result<Value, NoMem>
     requires { CanBuild N.AfterWhile index (reverse values.old) }
     ensures { IfOk result (λ it. IsBuilt N.AfterWhile index (reverse values.old) it (reverse values.new)) }
 {
     match index {
-        0 => Ok(after_while_0(values)),
-        1 => Ok(after_while_1(values)),
+        0 => after_while_0(alloc, values),
+        1 => after_while_1(alloc, values),
         _ => unreachable!(),
     }
 }
@@ -141,13 +153,17 @@ pub(crate) fn build_if(alloc: Global, index: usize, values: &mut Stack) -> Resul
     }
 }
 
-pub(crate) fn build_after_if(index: usize, values: &mut Stack) -> Result<Value, NoMem>
+pub(crate) fn build_after_if(
+    alloc: Global,
+    index: usize,
+    values: &mut Stack,
+) -> Result<Value, NoMem>
     requires { CanBuild N.AfterIf index (reverse values.old) }
     ensures { IfOk result (λ it. IsBuilt N.AfterIf index (reverse values.old) it (reverse values.new)) }
 {
     match index {
-        0 => Ok(after_if_0(values)),
-        1 => Ok(after_if_1(values)),
+        0 => after_if_0(alloc, values),
+        1 => after_if_1(alloc, values),
         _ => unreachable!(),
     }
 }

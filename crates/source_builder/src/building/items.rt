@@ -66,26 +66,30 @@ pub(crate) fn build_attribute(index: usize, values: &mut Stack) -> Result<Value,
     }
 }
 
-pub(crate) fn build_attributed(index: usize, values: &mut Stack) -> Result<Value, NoMem>
+pub(crate) fn build_attributed(
+    alloc: Global,
+    index: usize,
+    values: &mut Stack,
+) -> Result<Value, NoMem>
     requires { CanBuild N.Attributed index (reverse values.old) }
     ensures { IfOk result (λ it. IsBuilt N.Attributed index (reverse values.old) it (reverse values.new)) }
 {
     match index {
-        0 => Ok(attributed_0(values)),
-        1 => Ok(attributed_1(values)),
-        2 => Ok(attributed_2(values)),
+        0 => attributed_0(alloc, values),
+        1 => attributed_1(alloc, values),
+        2 => attributed_2(alloc, values),
         _ => unreachable!(),
     }
 }
 
-pub(crate) fn build_item(index: usize, values: &mut Stack) -> Result<Value, NoMem>
+pub(crate) fn build_item(alloc: Global, index: usize, values: &mut Stack) -> Result<Value, NoMem>
     requires { CanBuild N.Item index (reverse values.old) }
     ensures { IfOk result (λ it. IsBuilt N.Item index (reverse values.old) it (reverse values.new)) }
 {
     match index {
-        0 => Ok(attributed_1(values)),
-        1 => Ok(attributed_2(values)),
-        2 => Ok(item_2(values)),
+        0 => attributed_1(alloc, values),
+        1 => attributed_2(alloc, values),
+        2 => item_2(alloc, values),
         _ => unreachable!(),
     }
 }

@@ -47,7 +47,7 @@ pub fn take_maybe_body(values: &mut Stack) -> Spanned<Option<Body>>
     ensures { reverse values.old ≡ I.Part (V.MaybeBody result) ∷ reverse values.new }
 {
     match take_part(values) {
-        Value::MaybeBody(value) => value,
+        Value::MaybeBody(value) => value.into_inner(),
         other => {
             discard(other);
             unreachable!()
@@ -61,7 +61,7 @@ pub fn take_conditional(values: &mut Stack) -> Spanned<Conditional>
     ensures { reverse values.old ≡ I.Part (V.Conditional result) ∷ reverse values.new }
 {
     match take_part(values) {
-        Value::Conditional(value) => value,
+        Value::Conditional(value) => value.into_inner(),
         other => {
             discard(other);
             unreachable!()

@@ -49,7 +49,7 @@ pub fn take_item(values: &mut Stack) -> Spanned<Item>
     ensures { reverse values.old ≡ I.Part (V.Item result) ∷ reverse values.new }
 {
     match take_part(values) {
-        Value::Item(value) => value,
+        Value::Item(value) => value.into_inner(),
         other => {
             discard(other);
             unreachable!()

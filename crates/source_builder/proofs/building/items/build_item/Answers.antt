@@ -1,5 +1,5 @@
 -- What `build_item` calls builds the part. Written by tools/source_build.py.
-use Rattle.std.proofs.Common.{reverse, Ok}
+use Rattle.std.proofs.Common.{reverse}
 use Rattle.source_grammar.specs.declared.part.Part.TheVariants as N
 use Rattle.source_builder.proofs.Places.{at_place, built_at_place}
 use Rattle.source_builder.proofs.building.items.build_item.Goals as goal
@@ -11,7 +11,7 @@ attributed_1-requires c =
 
 pub returns-in-0 : goal.returns-in-0
 returns-in-0 c =
-    built_at_place N.Item c.args.index 0 (reverse c.args.values.now) (reverse c.attributed_1.new.values) (Ok c.attributed_1.result) c.in-0.is c.attributed_1.ensures
+    built_at_place N.Item c.args.index 0 (reverse c.args.values.now) (reverse c.attributed_1.new.values) c.attributed_1.result c.in-0.is c.attributed_1.ensures
 
 pub attributed_2-requires : goal.attributed_2-requires
 attributed_2-requires c =
@@ -20,8 +20,8 @@ attributed_2-requires c =
 
 pub returns-in-1 : goal.returns-in-1
 returns-in-1 c =
-    built_at_place N.Item c.args.index 1 (reverse c.args.values.now) (reverse c.attributed_2.new.values) (Ok c.attributed_2.result) c.in-1.is c.attributed_2.ensures
+    built_at_place N.Item c.args.index 1 (reverse c.args.values.now) (reverse c.attributed_2.new.values) c.attributed_2.result c.in-1.is c.attributed_2.ensures
 
 pub returns-in-2 : goal.returns-in-2
 returns-in-2 c =
-    built_at_place N.Item c.args.index 2 (reverse c.args.values.now) (reverse c.item_2.new.values) (Ok c.item_2.result) c.in-2.is c.item_2.ensures
+    built_at_place N.Item c.args.index 2 (reverse c.args.values.now) (reverse c.item_2.new.values) c.item_2.result c.in-2.is c.item_2.ensures
