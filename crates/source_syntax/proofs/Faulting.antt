@@ -1,8 +1,7 @@
 -- A fault of lexemes is where the source leaves the grammar.
-use Rattle.std.specs.Prelude.{◌≡◌, refl, ℕ, ◌<◌, ◌≤◌, List, [], Option, Some, None, MatchOption, length, slice_get}
+use Rattle.std.specs.Prelude.{◌≡◌, ℕ, ◌<◌, ◌≤◌, List, Option, Some, None, length, slice_get}
 use Rattle.std.proofs.Common.{arith, subst, sym, ◌∙◌, inl, inr, get_or}
 use Rattle.std.proofs.Math.Seq.{take_all}
-use Rattle.std.proofs.lemmas.List.{append-nil}
 use Rattle.std.proofs.lemmas.Option.{slice_get_cases}
 use Rattle.aen_base.specs.declared.span.Span.{Span}
 use Rattle.source_grammar.specs.declared.lexeme.Lexeme.{Lexeme}
@@ -30,19 +29,3 @@ at_lexical ls bad end k span f h b = lexical (viable ls k f h) b
 
 pub at_end : (ls : List Lexeme) (bad : Option Span) (end k : ℕ) → IsFault ls k → length ls ≤ k → bad ≡ None → IsSyntaxFault ls bad end (record { lo = end; hi = end })
 at_end ls bad end k f h b = unfinished (viable ls k f h) (unread ls k f h) b
-
-derived_viable : (ls : List Lexeme) → IsProgram ls → IsViable ls
-derived_viable ls d = ([], subst IsProgram (sym (append-nil ls)) d)
-
--- lexemes that are a program, up to a lexical fault
-of_program : (ls : List Lexeme) (bad : Option Span) (end : ℕ) (span : Span) → IsProgram ls → bad ≡ Some span → IsSyntaxFault ls bad end span
-of_program ls bad end span d b = lexical (derived_viable ls d) b
-
-by_lexical : (ls : List Lexeme) (bad b : Option Span) (end : ℕ) → IsProgram ls → bad ≡ b → MatchOption b ((bad ≡ None) × IsProgram ls) (IsSyntaxFault ls bad end)
-by_lexical ls bad None end d e = (e, d)
-by_lexical ls bad (Some span) end d e = of_program ls bad end span d e
-
--- where no lexeme is at fault, the lexical fault alone tells
-pub without_fault : (ls : List Lexeme) (bad : Option Span) (end : ℕ) (o : Option ℕ) → MatchOption o (IsProgram ls) (IsFault ls) → o ≡ None →
-    MatchOption bad ((bad ≡ None) × IsProgram ls) (IsSyntaxFault ls bad end)
-without_fault ls bad end o h e = by_lexical ls bad bad end (subst (λ (p : Option ℕ). MatchOption p (IsProgram ls) (IsFault ls)) e h) refl

@@ -1,5 +1,5 @@
 -- What the lexemes of a source come to: a program, or why they are none (LANGUAGE.md, "Grammar", "Limits").
-use Rattle.std.specs.Prelude.{◌≡◌, ℕ, if◌then◌else◌, List, [], ◌∷◌, Option, Some, None, MatchOption, length, slice_get}
+use Rattle.std.specs.Prelude.{◌≡◌, ℕ, if◌then◌else◌, List, [], ◌∷◌, Option, Some, None, slice_get}
 use denote.Enum.Bare.{sameb}
 use Rattle.aen_base.specs.declared.limits.Which.{Which}
 use Rattle.aen_base.specs.declared.limits.Which.TheVariants as W
@@ -18,7 +18,6 @@ use Rattle.source_grammar.specs.Lexemes.{takes}
 use Rattle.source_grammar.specs.Productions.{productions}
 use Rattle.source_syntax.specs.declared.refusal.Refusal.{Refusal}
 use Rattle.source_syntax.specs.declared.refusal.Refusal.TheVariants as R
-use Rattle.source_syntax.specs.Spelled.{lexemes}
 use Rattle.source_syntax.specs.Limits.{PassesNesting, PassesDepth, PassesElse}
 
 abbrev pub program : List (Symbol Terminal Part)
@@ -68,7 +67,3 @@ IsCause ts ls bad end (R.Syntax span) = (first_excluded ts ≡ None) × KeepsLim
 -- a program within the limits, without excluded words and lexical faults
 abbrev pub IsKept : List Token → List Lexeme → Option Span → Type 0
 IsKept ts ls bad = (first_excluded ts ≡ None) × KeepsLimits ls × (bad ≡ None) × IsProgram ls
-
--- what the tokens of a text up to a lexical fault come to
-abbrev pub IsAnswer : List ℕ → List Token → Option Span → Option Refusal → Type 0
-IsAnswer text ts bad o = MatchOption o (IsKept ts (lexemes text None ts) bad) (IsCause ts (lexemes text None ts) bad (length text))

@@ -6,12 +6,10 @@ mod effect;
 mod levels;
 mod lexemes;
 mod limits;
-mod reading;
 mod refusal;
 mod syntax;
 
 pub use effect::Effect;
 pub use lexemes::lexemes_of;
-pub use reading::syntax_refusal;
 pub use refusal::Refusal;
-pub use syntax::{fault_at, first_excluded, passed_limit, syntax_fault};
+pub use syntax::{fault_at, first_excluded, passed_limit};

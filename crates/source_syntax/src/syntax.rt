@@ -1,14 +1,13 @@
-//! Whether lexemes are a program (docs/LANGUAGE.md, "Grammar", "Limits").
+//! Why lexemes are no program (docs/LANGUAGE.md, "Grammar", "Limits").
 
-ghost use Rattle.std.specs.Prelude.{◌≡◌, None, IfOk, MatchOption};
+ghost use Rattle.std.specs.Prelude.{◌≡◌, IfOk, MatchOption};
 ghost use Rattle.source_syntax.specs.Refusals as spec;
 
 use crate::limits::{passes_depth, passes_else, passes_nesting};
 use aen_base::{NoMem, Span, Which};
 use rust_lex::{Kind, Token};
-use source_grammar::{Lexeme, Part, SourceGrammar};
+use source_grammar::Lexeme;
 use std::alloc::Global;
-use table_reader::grammar_fault;
 
 /// The first excluded word.
 pub fn first_excluded(tokens: &[Token]) -> Option<Span>
@@ -37,22 +36,6 @@ pub fn passed_limit(alloc: Global, lexemes: &[Lexeme]) -> Result<Option<(Which, 
         return Ok(Some((Which::Else, 251)));
     }
     Ok(None)
-}
-
-/// Where lexemes up to a lexical fault, in a text of so many bytes, are no program. The only error is want
-/// of memory.
-pub fn syntax_fault(
-    alloc: Global,
-    lexemes: &[Lexeme],
-    bad: Option<Span>,
-    end: u32,
-) -> Result<Option<Span>, NoMem>
-    ensures { IfOk result (λ o. MatchOption o ((bad ≡ None) × spec.IsProgram lexemes.now) (spec.IsSyntaxFault lexemes.now bad end)) }
-{
-    match grammar_fault::<SourceGrammar>(alloc, Part::Program, lexemes)? {
-        None => Ok(bad),
-        Some(place) => Ok(Some(fault_at(lexemes, place, bad, end))),
-    }
 }
 
 /// The place in the text of a fault of lexemes: a lexeme, the lexical fault after all of them, or the
