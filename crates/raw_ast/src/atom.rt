@@ -1,9 +1,10 @@
-ghost use Rattle.std.specs.Prelude.{◌≡◌, ◌+◌, ◌<◌, length, MatchOption};
+ghost use Rattle.std.specs.Prelude.{◌≡◌, ◌+◌, ◌<◌, length, IfOk, MatchOption};
 ghost use Rattle.raw_ast.specs.AtomView.{atom_of};
 ghost use Rattle.raw_ast.specs.Atoms as atoms;
 
 use crate::{Constructor, Spelling};
-use aen_base::{IntTy, List};
+use aen_base::{Boxed, IntTy, List, NoMem};
+use std::alloc::Global;
 use std::marker::Model;
 
 /// An atom as it is spelled. Contracts see it as `RawAtom` of `specs/Atoms.antt`.
@@ -79,7 +80,7 @@ pub enum RawAtomNode {
     Lit(Spelling, IntTy),
     Bool(bool),
     Tuple(List<RawAtom>),
-    Ctor(Constructor, List<RawAtom>),
+    Ctor(Boxed<Constructor>, List<RawAtom>),
 }
 
 impl Model for RawAtom {
@@ -138,12 +139,12 @@ impl RawAtom {
         }
     }
 
-    /// A constructor with its parts.
-    pub fn built(ctor: Constructor, parts: List<RawAtom>) -> RawAtom
-        ensures { result ≡ atoms.built ctor (atoms.rawatoms parts) }
+    /// A constructor with its parts. The only error is want of memory.
+    pub fn built(alloc: Global, ctor: Constructor, parts: List<RawAtom>) -> Result<RawAtom, NoMem>
+        ensures { IfOk result (λ t. t ≡ atoms.built ctor (atoms.rawatoms parts)) }
     {
-        RawAtom {
-            node: RawAtomNode::Ctor(ctor, parts),
-        }
+        Ok(RawAtom {
+            node: RawAtomNode::Ctor(Boxed::new(alloc, ctor)?, parts),
+        })
     }
 }

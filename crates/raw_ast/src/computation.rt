@@ -1,5 +1,5 @@
 use crate::{DefinitionName, RawAtom};
-use aen_base::{List, Span};
+use aen_base::{Boxed, List, Span};
 use pure_ast::Primitive;
 
 /// A primitive, and the place of the last token of its name.
@@ -14,6 +14,6 @@ pub struct Operation {
 pub enum Computation {
     Ok(RawAtom),
     Fail,
-    Call(DefinitionName, List<RawAtom>),
+    Call(Boxed<DefinitionName>, List<RawAtom>),
     Primitive(Operation, List<RawAtom>),
 }

@@ -27,7 +27,7 @@ pub fn atom_1(alloc: Global, values: &mut Stack) -> Result<Value, NoMem>
     ensures { IfOk result (λ it. IsBuilt N.Atom 1 (reverse values.old) it (reverse values.new)) }
 {
     let name = take_constructor(values);
-    let value = atoms::lone(alloc, name);
+    let value = atoms::lone(alloc, name)?;
     Ok(Value::Atom(Boxed::new(alloc, value)?))
 }
 

@@ -134,7 +134,7 @@ pub fn pattern_2(alloc: Global, values: &mut Stack) -> Result<Value, NoMem>
 {
     let variables = take_names(values);
     let name = take_constructor(values);
-    let value = code::built_pattern(name, variables);
+    let value = code::built_pattern(alloc, name, variables)?;
     Ok(Value::Pattern(Boxed::new(alloc, value)?))
 }
 
@@ -189,7 +189,7 @@ pub fn computation_2(alloc: Global, values: &mut Stack) -> Result<Value, NoMem>
     let atoms = take_atoms(values);
     drop_token(values);
     let name = take_definition_name(values);
-    let value = code::calls(name, atoms);
+    let value = code::calls(alloc, name, atoms)?;
     Ok(Value::Computation(Boxed::new(alloc, value)?))
 }
 

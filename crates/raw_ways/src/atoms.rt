@@ -40,11 +40,11 @@ pub fn unit_atom(alloc: Global) -> RawAtom
     RawAtom::tuple(List::new(alloc))
 }
 
-/// A constructor without arguments.
-pub fn lone(alloc: Global, name: Constructor) -> RawAtom
-    ensures { result ≡ spec.lone name }
+/// A constructor without arguments. The only error is want of memory.
+pub fn lone(alloc: Global, name: Constructor) -> Result<RawAtom, NoMem>
+    ensures { IfOk result (λ it. it ≡ spec.lone name) }
 {
-    RawAtom::built(name, List::new(alloc))
+    Ok(RawAtom::built(alloc, name, List::new(alloc))?)
 }
 
 /// A tuple of two parts or more. The only error is want of memory.
@@ -83,9 +83,10 @@ pub fn bracketed(
     ensures { IfOk result (λ it. it ≡ spec.bracketed name after) }
 {
     match after {
-        AfterConstructor::Arguments(args) => Ok(RawAtom::built(name, args.into_list())),
+        AfterConstructor::Arguments(args) => Ok(RawAtom::built(alloc, name, args.into_list())?),
         AfterConstructor::Parts(parts) => {
-            let parts = parts.push(lone(alloc, name))?;
+            let first = lone(alloc, name)?;
+            let parts = parts.push(first)?;
             Ok(RawAtom::tuple(parts.into_list()))
         }
     }

@@ -5,7 +5,7 @@ ghost use Rattle.raw_ways.specs.Ways as spec;
 
 use crate::spelling::spelled;
 use crate::words::is_true;
-use aen_base::NoMem;
+use aen_base::{Boxed, NoMem};
 use raw_ast::{
     Computation, Constructor, DefinitionName, Operation, Pattern, RawAtom, RawCode, Spelling,
 };
@@ -81,11 +81,16 @@ pub fn tuple_pattern(
     Ok(Pattern::Tuple(variables.into_list()))
 }
 
-/// The pattern of a constructor over variables.
-pub fn built_pattern(name: Constructor, variables: FrontList<Spelling>) -> Pattern
-    ensures { result ≡ spec.built_pattern name variables }
+/// The pattern of a constructor over variables. The only error is want of memory.
+pub fn built_pattern(
+    alloc: Global,
+    name: Constructor,
+    variables: FrontList<Spelling>,
+) -> Result<Pattern, NoMem>
+    ensures { IfOk result (λ it. it ≡ spec.built_pattern name variables) }
 {
-    Pattern::Built(name, variables.into_list())
+    let name = Boxed::new(alloc, name)?;
+    Ok(Pattern::Built(name, variables.into_list()))
 }
 
 /// The computation that gives an atom.
@@ -102,11 +107,16 @@ pub fn fails() -> Computation
     Computation::Fail
 }
 
-/// A call of a definition.
-pub fn calls(name: DefinitionName, atoms: FrontList<RawAtom>) -> Computation
-    ensures { result ≡ spec.calls name atoms }
+/// A call of a definition. The only error is want of memory.
+pub fn calls(
+    alloc: Global,
+    name: DefinitionName,
+    atoms: FrontList<RawAtom>,
+) -> Result<Computation, NoMem>
+    ensures { IfOk result (λ it. it ≡ spec.calls name atoms) }
 {
-    Computation::Call(name, atoms.into_list())
+    let name = Boxed::new(alloc, name)?;
+    Ok(Computation::Call(name, atoms.into_list()))
 }
 
 /// A primitive over atoms.

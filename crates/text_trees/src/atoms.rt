@@ -94,7 +94,7 @@ fn begin<'a>(alloc: Global, tables: &Tables, raw: &'a RawAtom) -> Result<AtomSte
         RawAtomNode::Lit(digits, ty) => Ok(AtomStep::Whole(Term::literal(number(digits, *ty)?))),
         RawAtomNode::Bool(truth) => Ok(AtomStep::Whole(Term::truth(*truth))),
         RawAtomNode::Tuple(parts) => Ok(next_part(None, parts.as_slice(), List::new(alloc))),
-        RawAtomNode::Ctor(name, parts) => begin_built(alloc, tables, name, parts.as_slice()),
+        RawAtomNode::Ctor(name, parts) => begin_built(alloc, tables, name.get(), parts.as_slice()),
     }
 }
 

@@ -36,7 +36,7 @@ pub(crate) fn settle_pattern(
         Pattern::Truth(truth) => Ok(Pat::Bool(*truth)),
         Pattern::Tuple(names) => Ok(Pat::Tuple(settle_variables(alloc, names.as_slice())?)),
         Pattern::Built(name, names) => {
-            let ctor = constructor(tables, name, names.len())?;
+            let ctor = constructor(tables, name.get(), names.len())?;
             let variables = settle_variables(alloc, names.as_slice())?;
             Ok(Pat::Ctor(ctor, variables))
         }
@@ -55,7 +55,7 @@ pub(crate) fn settle_computation(
         Computation::Ok(atom) => Ok(Comp::Ok(settle_atom(alloc, tables, atom)?)),
         Computation::Fail => Ok(Comp::Fail),
         Computation::Call(name, atoms) => {
-            let number = called(tables, name, atoms.len())?;
+            let number = called(tables, name.get(), atoms.len())?;
             let parts = settle_atoms(alloc, tables, atoms.as_slice())?;
             Ok(Comp::Call(DefId(number), parts))
         }

@@ -15,4 +15,4 @@ returns-in-Ctor-clause-meaning c =
     let node = ap atom_of a.is in
     let raw : c.args.raw.now ≡ built a.name (rawatoms a.parts) = cc in
     let same = ap (atom_told h) raw ∙ built_is h a.name a.parts in
-    subst (λ o. Leads o (step_told h) c.begin_built.result) (sym same) (rw c.as_slice-in-Ctor.ensures at c.begin_built.ensures.meaning)
+    subst (λ o. Leads o (step_told h) c.begin_built.result) (sym same) (rw c.as_slice-in-Ctor.ensures at (rw c.get.ensures at c.begin_built.ensures.meaning))
