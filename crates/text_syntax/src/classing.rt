@@ -7,7 +7,7 @@ use aen_base::{List, Name, NoMem};
 use std::alloc::Global;
 use text_meaning::{Mark, are_digits, is_bare, is_variable};
 use text_table::{Class, Lexeme, class_named};
-use text_tokens::LexemeKind;
+use text_tokens::{LexemeKind, Pile};
 
 /// The class of a lexeme.
 pub fn class_of(kind: &LexemeKind) -> Class
@@ -131,7 +131,7 @@ fn lexeme_of(alloc: Global, lexeme: text_tokens::Lexeme) -> Result<Lexeme, NoMem
 }
 
 /// The lexemes of a text with their classes. The only error is want of memory.
-pub fn lexemes_of(alloc: Global, lexemes: List<text_tokens::Lexeme>) -> Result<List<Lexeme>, NoMem>
+pub fn lexemes_of(alloc: Global, lexemes: Pile<text_tokens::Lexeme>) -> Result<List<Lexeme>, NoMem>
     ensures { IfOk result (λ it. it ≡ map spec.lexeme_of lexemes) }
 {
     let mut left = lexemes;

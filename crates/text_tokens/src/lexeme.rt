@@ -1,4 +1,5 @@
-use aen_base::{List, Name, Span};
+use crate::Pile;
+use aen_base::{Name, Span};
 use text_meaning::Mark;
 
 /// What a token is spelled as.
@@ -24,7 +25,7 @@ pub struct Lexeme {
 /// The tokens of a text, up to the first character at which none begins, if there is one.
 #[derive(Debug, Drop)]
 pub struct Lexemes {
-    pub list: List<Lexeme>,
+    pub list: Pile<Lexeme>,
     /// That character's place.
     pub fault: Option<Span>,
 }

@@ -18,8 +18,8 @@ use crate::classes::{
     is_word_start,
 };
 use crate::marked::{close_at, marked_name};
-use crate::{Lexeme, LexemeKind, Lexemes};
-use aen_base::{List, Name, NoMem, Span};
+use crate::{Lexeme, LexemeKind, Lexemes, Pile};
+use aen_base::{Name, NoMem, Span};
 use std::alloc::Global;
 use text_meaning::Mark;
 
@@ -262,7 +262,7 @@ fn cut(alloc: Global, text: &str) -> Result<Lexemes, NoMem>
     let end = bytes.len();
     let mut lexer = Lexer { rest: bytes };
     lexer.skip_space();
-    let mut list = List::new(alloc);
+    let mut list = Pile::new(alloc);
     for _turn in 0..end {
         let left = lexer.rest;
         let [first, ..] = left else {

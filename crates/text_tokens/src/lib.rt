@@ -6,7 +6,9 @@ mod classes;
 mod lexeme;
 mod lexer;
 mod marked;
+mod pile;
 
 pub use lexeme::{Lexeme, LexemeKind, Lexemes};
 pub use lexer::lex;
 pub use marked::is_name;
+pub use pile::Pile;

@@ -12,14 +12,14 @@ ghost use Rattle.text_words.specs.WordReading as spec;
 
 use crate::closed_values::closed_value;
 use crate::typing::has_type;
-use aen_base::{List, NoMem};
+use aen_base::NoMem;
 use pure_ast::{Defs, PTy, PValue, Term};
 use raw_ast::{RawAtom, RawType};
 use raw_reader::{read_atom, read_type};
 use std::alloc::Global;
 use text_names::{Names, Tables};
 use text_syntax::{has_few_brackets, lexemes_of};
-use text_tokens::{Lexeme, Lexemes, lex};
+use text_tokens::{Lexeme, Lexemes, Pile, lex};
 use text_trees::{SettleFault, atom_of, type_of};
 
 /// The value of this type that a word is; None where it is none. The only error is want of memory.
@@ -87,7 +87,7 @@ fn value_of(
 }
 
 /// The term that lexemes are. The only error is want of memory.
-fn read_term(alloc: Global, tables: &Tables, lexemes: List<Lexeme>) -> Result<Option<Term>, NoMem>
+fn read_term(alloc: Global, tables: &Tables, lexemes: Pile<Lexeme>) -> Result<Option<Term>, NoMem>
     ensures { IfOk result (λ o. spec.Finds (spec.IsTermOf tables.now lexemes) o) }
 {
     if !has_few_brackets(lexemes.as_slice()) {
@@ -101,7 +101,7 @@ fn read_term(alloc: Global, tables: &Tables, lexemes: List<Lexeme>) -> Result<Op
 fn read_plain_type(
     alloc: Global,
     tables: &Tables,
-    lexemes: List<Lexeme>,
+    lexemes: Pile<Lexeme>,
 ) -> Result<Option<PTy>, NoMem>
     ensures { IfOk result (λ o. spec.Finds (spec.IsTypeOf tables.now lexemes) o) }
 {

@@ -7,8 +7,8 @@ use Rattle.lean_reader.proofs.read.raw_of.Goals as goal
 pub returns-in-Ok : goal.returns-in-Ok
 returns-in-Ok c = answered c.args.lexemes c.as_slice.result.now c.in_ok-raw.field-0 c.in-Ok.raw c.as_slice.ensures c.in-Ok.is c.in_ok-raw.ensures.exact
 
-pub returns-in-Err : goal.returns-in-Err
-returns-in-Err c =
+pub returns : goal.returns
+returns c =
     let ls = c.args.lexemes in
     record {
       number = c.in-Err.number;
