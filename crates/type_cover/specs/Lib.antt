@@ -1,0 +1,5 @@
+pub mod Rows
+pub mod Ways
+pub mod Splitting
+pub mod Suits
+pub mod FitsSuit
