@@ -1,18 +1,19 @@
 -- In a column of numbers those that it doesn't name are all met alike.
 use Rattle.std.proofs.Common.{◌≡◌, ◌⊎◌, inl, inr, refl, ap, sym, subst, ◌∙◌}
-use Rattle.std.specs.Prelude.{Bool, true, false, ◌&&◌, if◌then◌else◌, Option, Some, None, List, [], ◌∷◌, ℤ, ⊤}
+use Rattle.std.specs.Prelude.{Bool, true, false, ◌&&◌, if◌then◌else◌, Option, Some, None, List, [], ◌∷◌, ◌++◌, ℤ, ⊤}
 use Rattle.std.specs.List.{list_all, list_any}
 use Rattle.std.specs.Ordering.{int_eq}
 use Rattle.std.proofs.lemmas.Bool.{and_parts, and_from, cases_Bool, false_from_ne_true, or_cases, or_parts, true≢false}
+use Rattle.std.proofs.lemmas.List.Folds.{list_any-append}
 use Rattle.std.proofs.lemmas.Bool.Decides.{Decides-int_eq}
 use Rattle.core_ty.specs.declared.decl.TypeDecl.{TypeDecl}
 use Rattle.type_rules.specs.Coverage.{meets, named_in}
 use Rattle.type_rules.specs.Skeletons.{numeral, other}
 use Rattle.type_cover.specs.Rows.{Row, if_met}
-use Rattle.type_cover.specs.Ways.{number_of, numbers_first, with_new}
+use Rattle.type_cover.specs.Ways.{number_of, numbers_first, numbers_onto, with_new}
 use Rattle.type_cover.proofs.Kept.{Agree, kept, left_kept, same_rows}
 use Rattle.type_cover.proofs.Suiting.{HeadsFit}
-use Rattle.type_cover.proofs.Tests.{Each, same_test}
+use Rattle.type_cover.proofs.Tests.{Each, each_append, same_test}
 use Rattle.rust_ast.specs.SpelledPatterns as q
 use Rattle.core_ty.specs.Types as t
 
@@ -37,10 +38,12 @@ not_in_this : (y z : ℤ) (zs : List ℤ) → is_in zs y ≡ true → is_in zs z
 not_in_this y z zs h k =
     false_from_ne_true (int_eq z y) (λ e. true≢false (sym (subst (λ x. is_in zs x ≡ true) (sym (same_number z y e)) h) ∙ k))
 
-not_in_new : (b : Bool) (y z : ℤ) (zs : List ℤ) → is_in zs y ≡ b → is_in (if b then zs else y ∷ zs) z ≡ false →
+not_in_new : (b : Bool) (y z : ℤ) (zs : List ℤ) → is_in zs y ≡ b → is_in (if b then zs else zs ++ y ∷ []) z ≡ false →
     (is_in zs z ≡ false) × (int_eq z y ≡ false)
 not_in_new true y z zs e h = (h, not_in_this y z zs e h)
-not_in_new false y z zs e h = let both = or_parts (int_eq z y) (is_in zs z) h in (both.1, both.0)
+not_in_new false y z zs e h =
+    let both = or_parts (is_in zs z) (is_in (y ∷ []) z) (sym (list_any-append (int_eq z) zs (y ∷ [])) ∙ h) in
+    (both.0, (or_parts (int_eq z y) false both.1).0)
 
 not_in : (o : Option ℤ) (z : ℤ) (zs : List ℤ) → is_in (with_new o zs) z ≡ false → (is_in zs z ≡ false) × OnSomeNumber o (λ y. int_eq z y ≡ false)
 not_in None z zs h = (h, tt)
@@ -56,14 +59,21 @@ same_meets z (q.tuple ps) h = refl
 same_meets z (q.construct d v ps) h = refl
 same_meets z (q.through m p) h = same_meets z p h
 
-others_agree : (z : ℤ) (rows : List Row) → is_in (numbers_first rows) z ≡ false → Agree (left_kept (numeral z)) (left_kept other) rows
-others_agree z [] h = tt
-others_agree z ([] ∷ rows) h = others_agree z rows h
-others_agree z ((p ∷ ps) ∷ rows) h =
-    let both = not_in (number_of p) z (numbers_first rows) h in (ap (λ b. if_met b []) (same_meets z p both.1), others_agree z rows both.0)
+not_onto : (z : ℤ) (zs : List ℤ) (rows : List Row) → is_in (numbers_onto zs rows) z ≡ false → is_in zs z ≡ false
+not_onto z zs [] h = h
+not_onto z zs ([] ∷ rows) h = not_onto z zs rows h
+not_onto z zs ((p ∷ ps) ∷ rows) h = (not_in (number_of p) z zs (not_onto z (with_new (number_of p) zs) rows h)).0
+
+others_agree : (z : ℤ) (zs : List ℤ) (rows : List Row) → is_in (numbers_onto zs rows) z ≡ false → Agree (left_kept (numeral z)) (left_kept other) rows
+others_agree z zs [] h = tt
+others_agree z zs ([] ∷ rows) h = others_agree z zs rows h
+others_agree z zs ((p ∷ ps) ∷ rows) h = (
+  ap (λ b. if_met b []) (same_meets z p (not_in (number_of p) z zs (not_onto z (with_new (number_of p) zs) rows h)).1),
+  others_agree z (with_new (number_of p) zs) rows h,
+)
 
 others_kept : (z : ℤ) (rows : List Row) → is_in (numbers_first rows) z ≡ false → kept (numeral z) rows ≡ kept other rows
-others_kept z rows h = same_rows (left_kept (numeral z)) (left_kept other) rows (others_agree z rows h)
+others_kept z rows h = same_rows (left_kept (numeral z)) (left_kept other) rows (others_agree z [] rows h)
 
 -- ---- the numbers of the column are known
 
@@ -72,9 +82,9 @@ module _ (ds : List TypeDecl) (N : ℤ → Type 0) where
   known_new None zs h k = k
   known_new (Some z) zs h k = by (is_in zs z)
     where
-      by : (b : Bool) → Each N (if b then zs else z ∷ zs)
+      by : (b : Bool) → Each N (if b then zs else zs ++ z ∷ [])
       by true = k
-      by false = (h, k)
+      by false = each_append N zs (z ∷ []) k (h, tt)
 
   known_number : (p : q.Pat) → Each N (named_in p) → OnSomeNumber (number_of p) N
   known_number q.wild h = tt
@@ -85,10 +95,13 @@ module _ (ds : List TypeDecl) (N : ℤ → Type 0) where
   known_number (q.construct d v ps) h = tt
   known_number (q.through m p) h = known_number p h
 
+  known_onto : (x : t.Ty) (zs : List ℤ) (rows : List Row) → HeadsFit ds N x rows → Each N zs → Each N (numbers_onto zs rows)
+  known_onto x zs [] h k = k
+  known_onto x zs ([] ∷ rows) h k = known_onto x zs rows h k
+  known_onto x zs ((p ∷ ps) ∷ rows) h k = known_onto x (with_new (number_of p) zs) rows h.1 (known_new (number_of p) zs (known_number p h.0.1) k)
+
   pub known_first : (x : t.Ty) (rows : List Row) → HeadsFit ds N x rows → Each N (numbers_first rows)
-  known_first x [] h = tt
-  known_first x ([] ∷ rows) h = known_first x rows h
-  known_first x ((p ∷ ps) ∷ rows) h = known_new (number_of p) (numbers_first rows) (known_number p h.0.1) (known_first x rows h.1)
+  known_first x rows h = known_onto x [] rows h tt
 
 -- ---- a test of all numbers
 

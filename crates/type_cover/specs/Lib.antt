@@ -3,3 +3,4 @@ pub mod Ways
 pub mod Splitting
 pub mod Suits
 pub mod FitsSuit
+pub mod Stack

@@ -1,5 +1,5 @@
 -- The constructors of a type with the types of their parts (LANGUAGE.md, "Coverage").
-use Rattle.std.specs.Prelude.{true, false, ℕ, ◌+◌, if◌then◌else◌, Option, Some, None, List, [], ◌∷◌, length, map, slice_get, ℤ}
+use Rattle.std.specs.Prelude.{true, false, ℕ, ◌+◌, if◌then◌else◌, Option, Some, None, List, [], ◌∷◌, ◌++◌, length, map, slice_get, ℤ}
 use Rattle.std.specs.List.{list_any}
 use Rattle.std.specs.Ordering.{int_eq}
 use Rattle.core_ty.specs.declared.decl.TypeDecl.{TypeDecl}
@@ -17,13 +17,16 @@ number_of p = None
 
 abbrev pub with_new : Option ℤ → List ℤ → List ℤ
 with_new None zs = zs
-with_new (Some z) zs = if list_any (int_eq z) zs then zs else z ∷ zs
+with_new (Some z) zs = if list_any (int_eq z) zs then zs else zs ++ z ∷ []
+
+abbrev pub numbers_onto : List ℤ → List Row → List ℤ
+numbers_onto zs [] = zs
+numbers_onto zs ([] ∷ rows) = numbers_onto zs rows
+numbers_onto zs ((p ∷ ps) ∷ rows) = numbers_onto (with_new (number_of p) zs) rows
 
 -- the numbers that the first column names, each once
 abbrev pub numbers_first : List Row → List ℤ
-numbers_first [] = []
-numbers_first ([] ∷ rows) = numbers_first rows
-numbers_first ((p ∷ ps) ∷ rows) = with_new (number_of p) (numbers_first rows)
+numbers_first rows = numbers_onto [] rows
 
 -- a constructor with the types of its parts
 abbrev pub Way : Type 0
