@@ -1,0 +1,9 @@
+pub mod Tests
+pub mod Kept
+pub mod FieldsMet
+pub mod Meeting
+pub mod Suiting
+pub mod Numbers
+pub mod Empty
+pub mod Columns
+pub mod Covered

@@ -1,0 +1,6 @@
+pub mod Rows
+pub mod Ways
+pub mod Splitting
+pub mod Suits
+pub mod FitsSuit
+pub mod Stack

@@ -1,0 +1,2 @@
+//! Whether patterns cover a type (LANGUAGE.md, "Coverage").
+#![tactic(auto)]
