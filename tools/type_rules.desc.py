@@ -19,3 +19,4 @@ TREES = {"Forms": dict(
         "Raw": "What an expression is.", "stands": "A place, with its type and whether it may be written.", "held": "A value.",
     },
 )}
+OWN_DROPS = True

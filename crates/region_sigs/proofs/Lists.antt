@@ -1,6 +1,6 @@
 -- The lists of types, parameters, fields, variants and declarations, item by item.
 use Rattle.std.proofs.Common.{◌≡◌, ℕ, zero, suc, ◌<◌, List, [], ◌∷◌, length, get_or, refl, ap, ◌∙◌, arith}
-use Rattle.std.specs.Prelude.{Bool, false, true, Result, Ok, Err, Option, Some, None, slice_get, unwrap_or}
+use Rattle.std.specs.Prelude.{Bool, false, true, Result, Ok, Err, Option, Some, None, map, slice_get, unwrap_or}
 use Rattle.core_ty.specs.Types as t
 use Rattle.core_ty.specs.declared.decl.TypeDecl.{TypeDecl}
 use Rattle.core_ty.specs.declared.decl.Variant.{Variant}
@@ -14,6 +14,7 @@ use Rattle.rust_ast.specs.declared.resolution.Declared.{Declared}
 use Rattle.type_rules.specs.Declarations.{parameter_numbers, fields_written, variants_written, declarations}
 use Rattle.type_rules.specs.Faults.{Fault, and_then}
 use Rattle.type_rules.specs.Signatures.{parameters_written}
+use Rattle.type_rules.specs.TypesInBodies.{numbers}
 use Rattle.type_rules.specs.WrittenTypes.{Standing, plain, input, Typing, written, written_all}
 
 -- ---- types in a list have fewer nodes than the list
@@ -30,17 +31,31 @@ written_item (y ∷ ys) (suc i) x h e = omega (arith, written_item ys i x (omega
 
 -- ---- how many parameters a declared type has
 
+-- a number of each item of a list, where the item is or isn't
+module _ {A : Type 0} (size : A → ℕ) where
+  none_of : (xs : List A) (k : ℕ) → slice_get xs k ≡ None → unwrap_or (slice_get (map size xs) k) 0 ≡ 0
+  none_of [] zero h = refl
+  none_of [] (suc k) h = refl
+  none_of (x ∷ xs) zero h = absurd cc
+  none_of (x ∷ xs) (suc k) h = none_of xs k h
+
+  one_of : (xs : List A) (k : ℕ) (x : A) → slice_get xs k ≡ Some x → unwrap_or (slice_get (map size xs) k) 0 ≡ size x
+  one_of [] zero x h = absurd cc
+  one_of [] (suc k) x h = absurd cc
+  one_of (y ∷ xs) zero x h = ap (λ (o : Option A). size (unwrap_or o y)) h
+  one_of (y ∷ xs) (suc k) x h = one_of xs k x h
+
 pub none_there : (ds : List Declared) (k : ℕ) → slice_get ds k ≡ None → unwrap_or (slice_get (parameter_numbers ds) k) 0 ≡ 0
-none_there [] zero h = refl
-none_there [] (suc k) h = refl
-none_there (d ∷ ds) zero h = absurd cc
-none_there (d ∷ ds) (suc k) h = none_there ds k h
+none_there ds k h = none_of (λ (d : Declared). length d.params) ds k h
 
 pub one_there : (ds : List Declared) (k : ℕ) (d : Declared) → slice_get ds k ≡ Some d → unwrap_or (slice_get (parameter_numbers ds) k) 0 ≡ length d.params
-one_there [] zero d h = absurd cc
-one_there [] (suc k) d h = absurd cc
-one_there (e ∷ ds) zero d h = ap (λ (o : Option Declared). length (unwrap_or o e).params) h
-one_there (e ∷ ds) (suc k) d h = one_there ds k d h
+one_there ds k d h = one_of (λ (x : Declared). length x.params) ds k d h
+
+pub no_type : (ds : List TypeDecl) (k : ℕ) → slice_get ds k ≡ None → unwrap_or (slice_get (numbers ds) k) 0 ≡ 0
+no_type ds k h = none_of (λ (d : TypeDecl). length d.params) ds k h
+
+pub one_type : (ds : List TypeDecl) (k : ℕ) (d : TypeDecl) → slice_get ds k ≡ Some d → unwrap_or (slice_get (numbers ds) k) 0 ≡ length d.params
+one_type ds k d h = one_of (λ (x : TypeDecl). length x.params) ds k d h
 
 -- ---- types
 

@@ -1,3 +1,4 @@
 pub mod Gives
+pub mod InBodies
 pub mod Standings
 pub mod Walks

@@ -29,7 +29,7 @@ fn copied(alloc: Global, names: &[Name]) -> Result<List<Name>, NoMem>
 /// A field, in whose type no borrow may stand.
 fn field_of(
     alloc: Global,
-    types: &[Declared],
+    types: &List<Declared>,
     field: &(Name, Written),
 ) -> Result<(Name, Ty), RegionFault>
     ensures { Gives (walks.field_written (spec.parameter_numbers types.now) field.now) result }
@@ -42,7 +42,7 @@ fn field_of(
 /// Fields in written order.
 fn fields_of(
     alloc: Global,
-    types: &[Declared],
+    types: &List<Declared>,
     fields: &[(Name, Written)],
 ) -> Result<List<(Name, Ty)>, RegionFault>
     ensures { Gives (spec.fields_written (spec.parameter_numbers types.now) fields.now) result }
@@ -58,7 +58,7 @@ fn fields_of(
 /// A variant.
 fn variant_of(
     alloc: Global,
-    types: &[Declared],
+    types: &List<Declared>,
     variant: &(Name, List<(Name, Written)>),
 ) -> Result<Variant, RegionFault>
     ensures { Gives (walks.variant_written (spec.parameter_numbers types.now) variant.now) result }
@@ -71,7 +71,7 @@ fn variant_of(
 /// Variants in written order.
 fn variants_of(
     alloc: Global,
-    types: &[Declared],
+    types: &List<Declared>,
     variants: &[(Name, List<(Name, Written)>)],
 ) -> Result<List<Variant>, RegionFault>
     ensures { Gives (spec.variants_written (spec.parameter_numbers types.now) variants.now) result }
@@ -87,7 +87,7 @@ fn variants_of(
 /// A declared type.
 fn declaration(
     alloc: Global,
-    types: &[Declared],
+    types: &List<Declared>,
     declared: &Declared,
 ) -> Result<TypeDecl, RegionFault>
     ensures { Gives (walks.declaration (spec.parameter_numbers types.now) declared.now) result }
@@ -107,7 +107,7 @@ fn declaration(
 /// These declared types, of a program's.
 fn declarations(
     alloc: Global,
-    types: &[Declared],
+    types: &List<Declared>,
     these: &[Declared],
 ) -> Result<List<TypeDecl>, RegionFault>
     ensures { Gives (spec.declarations (spec.parameter_numbers types.now) these.now) result }
@@ -134,5 +134,5 @@ pub fn decls(alloc: Global, program: &Resolved) -> Result<List<TypeDecl>, Region
     ensures never_no_region { NeverNoRegion result }
 {
     let types = program.types.as_slice();
-    declarations(alloc, types, types)
+    declarations(alloc, &program.types, types)
 }

@@ -2,7 +2,9 @@
 //! (LANGUAGE.md, "Types" and "Regions").
 #![tactic(auto)]
 
+mod bodies;
 mod declarations;
+mod declaring;
 mod fault;
 mod references;
 mod signatures;
@@ -10,6 +12,9 @@ mod sizes;
 mod standing;
 mod types;
 
+pub use bodies::{body_arguments, body_type};
 pub use declarations::decls;
+pub use declaring::Declaring;
 pub use fault::RegionFault;
 pub use signatures::regions;
+pub use sizes::is_large;

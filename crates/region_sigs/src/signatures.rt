@@ -32,7 +32,7 @@ fn number(length: usize) -> Result<u32, NoMem>
 /// The types of parameters with the next new region after them; each elided lifetime is a new region.
 fn parameters_of(
     alloc: Global,
-    types: &[Declared],
+    types: &List<Declared>,
     params: &[Written],
     next: u32,
 ) -> Result<(List<Ty>, u32), RegionFault>
@@ -44,7 +44,7 @@ fn parameters_of(
 /// The type of a result, which is unit where none is written.
 fn result_of(
     alloc: Global,
-    types: &[Declared],
+    types: &List<Declared>,
     standing: Standing,
     ty: &Option<Written>,
     next: u32,
@@ -58,7 +58,7 @@ fn result_of(
 }
 
 /// The signature of a function of a program with these declared types.
-fn signature(alloc: Global, types: &[Declared], f: &Function) -> Result<Sig, RegionFault>
+fn signature(alloc: Global, types: &List<Declared>, f: &Function) -> Result<Sig, RegionFault>
     ensures { Gives (spec.signature (parameter_numbers types.now) f.now) result }
 {
     let type_params = number(f.type_params.len())?;
@@ -91,5 +91,5 @@ pub fn regions(alloc: Global, program: &Resolved, f: FnId) -> Result<Sig, Region
     ensures { (g : whole.Function) → slice_get program.now.functions f.0 ≡ Some g → Gives (spec.signature_of program.now g) result }
 {
     let functions = program.functions.as_slice();
-    signature(alloc, program.types.as_slice(), &functions[f.0 as usize])
+    signature(alloc, &program.types, &functions[f.0 as usize])
 }

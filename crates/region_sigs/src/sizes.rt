@@ -42,7 +42,7 @@ fn left_after_all(types: &[Ty], count: u32) -> Option<u32>
 
 /// Whether a type has more nodes than a type may have.
 #[tactic(auto, unfolding(type_rules::specs::TypeFacts::is_large))]
-fn is_large(ty: &Ty) -> bool
+pub fn is_large(ty: &Ty) -> bool
     ensures { result ≡ facts.is_large ty.now }
 {
     match left_after(ty, NODES) {

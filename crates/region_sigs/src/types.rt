@@ -1,33 +1,22 @@
 //! Written types as types. The recursion is as deep as a type is nested, which the limits on brackets
 //! and operators bound where a program was read from a source.
 
-ghost use Rattle.std.specs.Prelude.{◌≡◌, not, ◌==◌, length, slice_get, unwrap_or};
+ghost use Rattle.std.specs.Prelude.{◌≡◌, not, ◌==◌, length};
 ghost use Rattle.core_ty.specs.Types as t;
 ghost use Rattle.region_sigs.specs.Gives.{Gives, GivesAs};
 ghost use Rattle.region_sigs.specs.Standings.{as_standing};
 ghost use Rattle.region_sigs.specs.Walks.{in_tys};
 ghost use Rattle.rust_ast.specs.Written.{writtens};
-ghost use Rattle.type_rules.specs.Declarations.{parameter_numbers};
 ghost use Rattle.type_rules.specs.WrittenTypes as spec;
 
 use crate::RegionFault;
+use crate::declaring::Declaring;
 use crate::sizes::within_limit;
 use crate::standing::{Standing, next_region, region_of};
-use aen_base::{Boxed, List, RegionId, TypeId, at};
+use aen_base::{Boxed, List, RegionId};
 use core_ty::{Ty, TyNode};
-use rust_ast::resolution::Declared;
 use rust_ast::written::{Written, WrittenNode};
 use std::alloc::Global;
-
-/// How many parameters a declared type has.
-fn parameters_of(types: &[Declared], decl: TypeId) -> usize
-    ensures { result ≡ unwrap_or (slice_get (parameter_numbers types.now) decl.0) 0 }
-{
-    match at(types, decl.0 as usize) {
-        None => 0,
-        Some(found) => found.params.len(),
-    }
-}
 
 /// Whether these are another number of arguments.
 #[tactic(auto, using(core_ty::specs::Types::tys_back))]
@@ -64,15 +53,15 @@ fn reference(
 /// A written type with the next new region after it; `inside` a declared type, `Box`, type argument or
 /// reference no borrow may stand.
 #[cycle(written)]
-pub(crate) fn type_of(
+pub(crate) fn type_of<D: Declaring>(
     alloc: Global,
-    types: &[Declared],
+    types: &D,
     standing: Standing,
     inside: bool,
     ty: &Written,
     next: u32,
 ) -> Result<(Ty, u32), RegionFault>
-    ensures { Gives (spec.written (parameter_numbers types.now) (as_standing standing) inside ty.now next) result }
+    ensures { Gives (spec.written (D.numbers types.now) (as_standing standing) inside ty.now next) result }
 {
     match &ty.node {
         WrittenNode::Int(_, int) => {
@@ -104,7 +93,7 @@ pub(crate) fn type_of(
         }
         WrittenNode::Named(span, decl, args) => {
             let (args, next) = types_of(alloc, types, standing, true, args.as_slice(), next)?;
-            if are_not(args.as_slice(), parameters_of(types, *decl)) {
+            if are_not(args.as_slice(), types.arity(*decl)) {
                 return Err(RegionFault::Arity(*span));
             }
             let node = TyNode::Named(*decl, args);
@@ -123,15 +112,15 @@ pub(crate) fn type_of(
 
 /// Written types from left to right.
 #[cycle(written)]
-pub(crate) fn types_of(
+pub(crate) fn types_of<D: Declaring>(
     alloc: Global,
-    types: &[Declared],
+    types: &D,
     standing: Standing,
     inside: bool,
     items: &[Written],
     next: u32,
 ) -> Result<(List<Ty>, u32), RegionFault>
-    ensures { GivesAs in_tys (spec.written_all (parameter_numbers types.now) (as_standing standing) inside (writtens items.now) next) result }
+    ensures { GivesAs in_tys (spec.written_all (D.numbers types.now) (as_standing standing) inside (writtens items.now) next) result }
 {
     let mut done = List::new(alloc);
     let mut following = next;

@@ -1,6 +1,6 @@
 use Rattle.std.proofs.Common.{sym, ◌∙◌}
 use Rattle.region_sigs.proofs.Lists.{none_there, one_there}
-use Rattle.region_sigs.proofs.types.parameters_of.Goals as goal
+use Rattle.region_sigs.proofs.declaring.written_arity.Goals as goal
 
 pub returns-in-None : goal.returns-in-None
 returns-in-None c = sym (none_there c.args.types.now _ (sym c.in-None.ensures))

@@ -1,0 +1,9 @@
+use Rattle.std.proofs.Common.{sym, ◌∙◌}
+use Rattle.region_sigs.proofs.Lists.{no_type, one_type}
+use Rattle.region_sigs.proofs.declaring.typed_arity.Goals as goal
+
+pub returns-in-None : goal.returns-in-None
+returns-in-None c = sym (no_type c.args.types.now _ (sym c.in-None.ensures))
+
+pub returns-in-Some : goal.returns-in-Some
+returns-in-Some c = c.len.ensures ∙ sym (one_type c.args.types.now _ _ (sym c.in-Some.ensures))
