@@ -18,7 +18,7 @@ use Rattle.type_cover.proofs.Columns.{Splits, made_columns}
 use Rattle.type_cover.proofs.Empty.{void_is}
 use Rattle.type_cover.proofs.Kept.{boolean_kept, kept, numeral_kept, open_kept, other_kept, unknown_kept}
 use Rattle.type_cover.proofs.Meeting.{part_types}
-use Rattle.type_cover.proofs.Numbers.{is_in, known_first, number_itself, numbers_kept}
+use Rattle.type_cover.proofs.NamedNumbers.{is_in, known_first, number_itself, numbers_kept}
 use Rattle.type_cover.proofs.Suiting.{HeadsFit}
 use Rattle.type_cover.proofs.Tests.{Each, all_append, all_map, all_one, each_after, each_before, each_then, with_true}
 use Rattle.rust_ast.specs.SpelledPatterns as q

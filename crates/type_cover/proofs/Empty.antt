@@ -5,9 +5,8 @@ use Rattle.std.specs.List.{list_all, list_any}
 use Rattle.core_ty.specs.declared.decl.TypeDecl.{TypeDecl}
 use Rattle.core_ty.specs.declared.decl.Variant.{Variant}
 use Rattle.type_rules.specs.Skeletons.{Skeleton, Skeletons, content, field_types, level, made, more_skeletons, of_declared, of_variants, put_before, rows, skeletons}
-use Rattle.type_cover.specs.Splitting.{is_void, is_void_way, void_ways}
-use Rattle.type_cover.specs.Ways.{declared_ways, variant_ways, ways}
-use Rattle.type_cover.proofs.Tests.{is_nil, nil_append, nil_map, with_true}
+use Rattle.type_cover.specs.Splitting.{is_void, void_declared, void_level, void_variant}
+use Rattle.type_cover.proofs.Tests.{is_nil, nil_append, nil_map}
 use Rattle.core_ty.specs.Types as t
 
 absorbed : (a b : Bool) → (b && (a || b)) ≡ b
@@ -30,21 +29,21 @@ module _ (f : t.Ty → Bool) (g : t.Ty → List Skeleton) (same : (x : t.Ty) →
   no_parts : (v : ℕ) (xs : List t.Ty) → list_any f xs ≡ is_nil (map (made v) (rows g xs))
   no_parts v xs = no_rows xs ∙ sym (nil_map (made v) (rows g xs))
 
-  no_variants : (args : List t.Ty) (k : ℕ) (vs : List Variant) → list_all (is_void_way f) (variant_ways args k vs) ≡ is_nil (of_variants g args k vs)
+  no_variants : (args : List t.Ty) (k : ℕ) (vs : List Variant) → list_all (void_variant f args) vs ≡ is_nil (of_variants g args k vs)
   no_variants args k [] = refl
   no_variants args k (v ∷ vs) =
       (λ i. no_parts k (field_types args v.fields) i && no_variants args (k + 1) vs i)
       ∙ sym (nil_append (map (made k) (rows g (field_types args v.fields))) (of_variants g args (k + 1) vs))
 
-  none_declared : (args : List t.Ty) (o : Option TypeDecl) → list_all (is_void_way f) (declared_ways args o) ≡ is_nil (of_declared g args o)
+  none_declared : (args : List t.Ty) (o : Option TypeDecl) → void_declared f args o ≡ is_nil (of_declared g args o)
   none_declared args None = refl
   none_declared args (Some d) = no_variants args 0 d.variants
 
-  no_level : (ds : List TypeDecl) (zs : List ℤ) (x : t.Ty) → void_ways f (ways ds [] x) ≡ is_nil (level g ds zs x)
+  no_level : (ds : List TypeDecl) (zs : List ℤ) (x : t.Ty) → void_level f ds x ≡ is_nil (level g ds zs x)
   no_level ds zs (t.int i) = refl
   no_level ds zs t.bool = refl
   no_level ds zs t.unit = refl
-  no_level ds zs (t.tuple xs) = with_true (list_any f (t.tys_list xs)) ∙ no_parts 0 (t.tys_list xs)
+  no_level ds zs (t.tuple xs) = no_parts 0 (t.tys_list xs)
   no_level ds zs (t.named d args) = none_declared (t.tys_list args) (slice_get ds d.0)
   no_level ds zs (t.param k) = refl
   no_level ds zs (t.boxed x) = refl

@@ -3,7 +3,11 @@ pub mod Kept
 pub mod FieldsMet
 pub mod Meeting
 pub mod Suiting
-pub mod Numbers
+pub mod NamedNumbers
 pub mod Empty
 pub mod Columns
 pub mod Covered
+pub mod CellRows
+pub mod Nested
+pub mod Steps
+pub mod Emptiness

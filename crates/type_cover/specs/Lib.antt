@@ -4,3 +4,5 @@ pub mod Splitting
 pub mod Suits
 pub mod FitsSuit
 pub mod Stack
+pub mod Cells
+pub mod Remembered

@@ -1,28 +1,40 @@
 -- Rows of patterns are split by the first column: for each constructor of its type, the rows that it
 -- meets, with a column for each of its parts. A column in which all is open needs no split
 -- (LANGUAGE.md, "Coverage").
-use Rattle.std.specs.Prelude.{ℕ, zero, suc, Bool, true, false, ◌||◌, if◌then◌else◌, Option, Some, None, List, [], ◌∷◌, map}
+use Rattle.std.specs.Prelude.{ℕ, zero, suc, Bool, true, false, ◌||◌, if◌then◌else◌, Option, Some, None, List, [], ◌∷◌, map, slice_get}
 use Rattle.std.specs.List.{list_all, list_any}
 use Rattle.core_ty.specs.declared.decl.TypeDecl.{TypeDecl}
+use Rattle.core_ty.specs.declared.decl.Variant.{Variant}
 use Rattle.type_rules.specs.Coverage.{levels}
-use Rattle.type_rules.specs.Skeletons.{content}
+use Rattle.type_rules.specs.Skeletons.{content, field_types}
 use Rattle.type_cover.specs.Rows.{Row, begins_open, open_rows, rows_at}
 use Rattle.type_cover.specs.Ways.{Way, numbers_first, ways}
 use Rattle.rust_ast.specs.SpelledPatterns as q
 use Rattle.core_ty.specs.Types as t
 
--- a constructor that has no value, where a part has none
-abbrev pub is_void_way : (t.Ty → Bool) → Way → Bool
-is_void_way f w = list_any f w.1
+-- a variant that has no value, where a field has none
+abbrev pub void_variant : (t.Ty → Bool) → List t.Ty → Variant → Bool
+void_variant f args v = list_any f (field_types args v.fields)
 
-abbrev pub void_ways : (t.Ty → Bool) → Option (List Way) → Bool
-void_ways f None = false
-void_ways f (Some ws) = list_all (is_void_way f) ws
+abbrev pub void_declared : (t.Ty → Bool) → List t.Ty → Option TypeDecl → Bool
+void_declared f args None = true
+void_declared f args (Some d) = list_all (void_variant f args) d.variants
+
+-- a type that has no value, where that is known of its parts
+abbrev pub void_level : (t.Ty → Bool) → List TypeDecl → t.Ty → Bool
+void_level f ds (t.int i) = false
+void_level f ds t.bool = false
+void_level f ds t.unit = false
+void_level f ds (t.tuple xs) = list_any f (t.tys_list xs)
+void_level f ds (t.named d args) = void_declared f (t.tys_list args) (slice_get ds d.0)
+void_level f ds (t.param k) = false
+void_level f ds (t.boxed x) = false
+void_level f ds (t.ref r m x) = false
 
 -- a type that has no value down to a level
 abbrev pub is_void : List TypeDecl → ℕ → t.Ty → Bool
 is_void ds zero x = false
-is_void ds (suc n) x = void_ways (is_void ds n) (ways ds [] (content x))
+is_void ds (suc n) x = void_level (is_void ds n) ds (content x)
 
 -- what is asked of the rows when the columns before are done
 abbrev pub Onward : Type 0

@@ -46,10 +46,16 @@ declared_ways args (Some d) = variant_ways args 0 d.variants
 abbrev pub number_way : ℤ → Way
 number_way z = (numeral z, [])
 
+abbrev pub number_ways : List ℤ → List Way
+number_ways zs = (other, []) ∷ map number_way zs
+
+abbrev pub bool_ways : List Way
+bool_ways = (boolean true, []) ∷ (boolean false, []) ∷ []
+
 -- the constructors of a type that is looked into, where the column names these numbers; `None`: it isn't
 abbrev pub ways : List TypeDecl → List ℤ → t.Ty → Option (List Way)
-ways ds zs (t.int i) = Some ((other, []) ∷ map number_way zs)
-ways ds zs t.bool = Some ((boolean true, []) ∷ (boolean false, []) ∷ [])
+ways ds zs (t.int i) = Some (number_ways zs)
+ways ds zs t.bool = Some bool_ways
 ways ds zs t.unit = Some (way 0 [] ∷ [])
 ways ds zs (t.tuple xs) = Some (way 0 (t.tys_list xs) ∷ [])
 ways ds zs (t.named d args) = Some (declared_ways (t.tys_list args) (slice_get ds d.0))
