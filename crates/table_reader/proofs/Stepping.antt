@@ -1,12 +1,12 @@
 -- Turns and steps on a stack whose newest symbol is its last.
-use Rattle.std.proofs.Common.{◌≡◌, refl, sym, ap, ◌∙◌, subst, ℕ, suc, ◌+◌, arith, List, [], ◌∷◌, ◌++◌, reverse, Option, Some, None}
+use Rattle.std.proofs.Common.{◌≡◌, refl, ap, ◌∙◌, ℕ, suc, ◌+◌, arith, List, [], ◌∷◌, ◌++◌, reverse, Option, Some, None}
 use Rattle.std.specs.Option.{option_map}
 use Rattle.std.proofs.lemmas.List.{reverse-append}
 use Rattle.table_reader.specs.declared.symbol.Symbol.{Symbol}
 use Rattle.table_reader.specs.declared.take.Take.{Take}
 use Rattle.table_reader.specs.declared.take.Take.TheVariants as K
-use Rattle.table_reader.specs.Steps.{Turn, turned, before, one_more}
-use Rattle.table_reader.specs.Stacks.{Enters, Turns}
+use Rattle.table_reader.specs.Steps.{turned, one_more}
+use Rattle.table_reader.specs.Stacks.{Turns}
 
 pub popped : {A : Type 0} (old new : List A) (last : A) → old ≡ new ++ last ∷ [] → reverse old ≡ last ∷ reverse new
 popped old new last e = ap reverse e ∙ reverse-append new (last ∷ [])
@@ -28,13 +28,3 @@ pub turns_token : {T N L : Type 0} (k : Take L) (rest : List (Symbol T N)) → T
 turns_token K.No rest = tt
 turns_token K.Whole rest = refl
 turns_token (K.Front half r) rest = (refl, refl)
-
--- of a part that is entered
-pub turns_entered : {T N L : Type 0} (takes : T → L → Take L) (l : L) (c other : Turn T N L) (t : T) (k : Take L) (old new : List (Symbol T N)) →
-    k ≡ takes t l → Enters takes l c (Some t) old new → Turns (before old c other) k new
-turns_entered {T} {N} {L} takes l c other t k old new e h =
-    subst (λ (j : Take L). Turns (before old c other) j new) (sym e)
-    (subst (λ (u : Turn T N L). Turns u (takes t l) new) (sym (h other)) (turns_token (takes t l) new))
-
-pub turns_later : {T N L : Type 0} (takes : T → L → Take L) (l : L) (c other : Turn T N L) (old new : List (Symbol T N)) → Enters takes l c None old new → before old c other ≡ other
-turns_later {T} {N} {L} takes l c other old new h = ap (λ (d : Turn T N L). before old d other) h.0
