@@ -1,3 +1,9 @@
+pub mod Arguing
+pub mod Beginning
+pub mod Failing
 pub mod Items
 pub mod Walking
-pub mod Walked
+pub mod WalkedArms
+pub mod WalkedParts
+pub mod WalkedStmts
+pub mod WalkedValues

@@ -146,7 +146,7 @@ fn read_constructed(
 
 /// An argument with the type of its parameter, if it has one, and what is found by it.
 #[cycle(reading)]
-#[tactic(auto, using(crate::proofs::Calls::argument_steps))]
+#[tactic(auto, using(crate::proofs::Arguing::argument_steps))]
 fn read_argument(
     alloc: Global,
     scope: &Scope,

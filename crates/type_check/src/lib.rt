@@ -10,4 +10,7 @@ mod expressions;
 mod jumps;
 mod operators;
 mod places;
+mod programs;
 mod statements;
+
+pub use programs::{Typed, check};

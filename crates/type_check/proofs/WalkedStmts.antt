@@ -1,5 +1,5 @@
 -- The walk through statements.
-use Rattle.std.proofs.Common.{◌≡◌, ℕ, ◌+◌, ◌<◌, ◌≤◌, List, [], ◌∷◌, ◌++◌, length, get_or, drop, refl, ap, sym, ◌∙◌}
+use Rattle.std.proofs.Common.{◌≡◌, ℕ, ◌+◌, ◌<◌, ◌≤◌, List, [], ◌∷◌, ◌++◌, length, get_or, drop, refl, ap, ◌∙◌}
 use Rattle.std.specs.Prelude.{Bool, true, false, ◌||◌, Result, Ok, Err}
 use Rattle.rust_ast.specs.Resolved as e
 use Rattle.rust_ast.specs.Spelled as s
@@ -10,13 +10,13 @@ use Rattle.type_rules.specs.Faults.{Fault}
 use Rattle.type_rules.specs.declared.state.Scope.{Scope}
 use Rattle.type_rules.specs.declared.state.State.{State}
 
-stmts_snoc : (xs : List s.Stmt) (y : s.Stmt) (l : s.Stmts) → stmts_before xs (s.more_stmts y l) ≡ stmts_before (xs ++ y ∷ []) l
-stmts_snoc [] y l = refl
-stmts_snoc (x ∷ xs) y l = ap (s.more_stmts x) (stmts_snoc xs y l)
+snoc : (xs : List s.Stmt) (y : s.Stmt) (l : s.Stmts) → stmts_before xs (s.more_stmts y l) ≡ stmts_before (xs ++ y ∷ []) l
+snoc [] y l = refl
+snoc (x ∷ xs) y l = ap (s.more_stmts x) (snoc xs y l)
 
-stmts_alone : (xs : List s.Stmt) → stmts_before xs s.no_stmts ≡ s.stmts xs
-stmts_alone [] = refl
-stmts_alone (x ∷ xs) = ap (s.more_stmts x) (stmts_alone xs)
+alone : (xs : List s.Stmt) → stmts_before xs s.no_stmts ≡ s.stmts xs
+alone [] = refl
+alone (x ∷ xs) = ap (s.more_stmts x) (alone xs)
 
 or_either : (a b c : Bool) → (a || (b || c)) ≡ ((a || b) || c)
 or_either true b c = refl
@@ -32,14 +32,17 @@ Step = (s.Stmt × Bool) × State
 abbrev Rest : Type 0
 Rest = (s.Stmts × Bool) × State
 
-abbrev add_stmt : Step → Rest → Rest
-add_stmt m l = ((s.more_stmts m.0.0 l.0.0, m.0.1 || l.0.1), l.1)
+abbrev next : e.Stmt → State → Step → State
+next x u m = m.1
 
-abbrev push_stmt : List s.Stmt × Bool → Step → List s.Stmt × Bool
-push_stmt d m = (d.0 ++ m.0.0 ∷ [], d.1 || m.0.1)
+abbrev add : e.Stmt → State → Step → Rest → Rest
+add x u m l = ((s.more_stmts m.0.0 l.0.0, m.0.1 || l.0.1), l.1)
 
-moves : (d : List s.Stmt × Bool) (m : Step) (l : Rest) → before_stmts d (add_stmt m l) ≡ before_stmts (push_stmt d m) l
-moves d m l = λ i. ((stmts_snoc d.0 m.0.0 l.0.0 i, or_either d.1 m.0.1 l.0.1 i), l.1)
+abbrev push : List s.Stmt × Bool → e.Stmt → State → Step → List s.Stmt × Bool
+push d x u m = (d.0 ++ m.0.0 ∷ [], d.1 || m.0.1)
+
+moves : (d : List s.Stmt × Bool) (x : e.Stmt) (u : State) (m : Step) (l : Rest) → before_stmts d (add x u m l) ≡ before_stmts (push d x u m) l
+moves d x u m l = λ i. ((snoc d.0 m.0.0 l.0.0 i, or_either d.1 m.0.1 l.0.1 i), l.1)
 
 pub stmts_start : (o : Result Rest Fault) → o ≡ onward before_stmts ([], false) o
 stmts_start (Ok r) = refl
@@ -49,15 +52,15 @@ pub stmts_turn : (c : Scope) (xs : List e.Stmt) (i : ℕ) (done : List s.Stmt) (
     i < length xs → x ≡ get_or xs i x → read_stmt c x st ≡ Ok ((y, never), st2) →
     onward before_stmts (done, stops) (read_stmts c (e.stmts (drop i xs)) st) ≡ onward before_stmts (done ++ y ∷ [], stops || never) (read_stmts c (e.stmts (drop (i + 1) xs)) st2)
 stmts_turn c xs i done stops x st y never st2 h q a =
-    turn (read_stmt c) (λ m. m.1) add_stmt (λ ys. read_stmts c (e.stmts ys)) before_stmts push_stmt (λ z zs u. refl) moves xs i (done, stops) x st ((y, never), st2) h q a
+    turn (read_stmt c) next add (λ ys. read_stmts c (e.stmts ys)) before_stmts push (λ z zs u. refl) moves xs i (done, stops) x st ((y, never), st2) h q a
 
 pub stmts_fail : (c : Scope) (xs : List e.Stmt) (i : ℕ) (d : List s.Stmt × Bool) (x : e.Stmt) (st : State) (f : Fault) →
     i < length xs → x ≡ get_or xs i x → read_stmt c x st ≡ Err f → onward before_stmts d (read_stmts c (e.stmts (drop i xs)) st) ≡ Err f
 stmts_fail c xs i d x st f h q a =
-    fails (read_stmt c) (λ m. m.1) add_stmt (λ ys. read_stmts c (e.stmts ys)) before_stmts push_stmt (λ z zs u. refl) xs i d x st f h q a
+    fails (read_stmt c) next add (λ ys. read_stmts c (e.stmts ys)) before_stmts push (λ z zs u. refl) xs i d x st f h q a
 
 pub stmts_end : (c : Scope) (xs : List e.Stmt) (i : ℕ) (done : List s.Stmt) (stops : Bool) (st : State) → length xs ≤ i →
     onward before_stmts (done, stops) (read_stmts c (e.stmts (drop i xs)) st) ≡ Ok ((s.stmts done, stops), st)
 stmts_end c xs i done stops st h =
-    ends (read_stmt c) (λ m. m.1) add_stmt (λ ys. read_stmts c (e.stmts ys)) before_stmts push_stmt (λ u. ((s.no_stmts, false), u)) (λ u. refl) xs i (done, stops) st h
-    ∙ (λ j. Ok ((stmts_alone done j, or_nothing stops j), st))
+    ends (read_stmt c) next add (λ ys. read_stmts c (e.stmts ys)) before_stmts push (λ u. ((s.no_stmts, false), u)) (λ u. refl) xs i (done, stops) st h
+    ∙ (λ j. Ok ((alone done j, or_nothing stops j), st))
