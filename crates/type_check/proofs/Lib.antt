@@ -1,5 +1,6 @@
 pub mod Arguing
 pub mod Beginning
+pub mod Checking
 pub mod Failing
 pub mod Items
 pub mod Walking

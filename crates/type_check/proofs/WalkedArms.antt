@@ -92,4 +92,4 @@ pub arms_end : (c : Scope) (k : s.Scrutinee) (w : Expected) (xs : List (p.Pat ×
     onward before_arms done (read_arms c (e.arms (drop i xs)) k w found st) ≡ Ok (record { arms = s.arms done; found = found; state = st })
 arms_end c k w xs i done found st h =
     ends (step c k w) next add (all c k w) before_arms push (λ u. record { arms = s.no_arms; found = u.0; state = u.1 }) (λ u. refl) xs i done (found, st) h
-    ∙ (λ j. Ok (record { arms = alone done j; found = found; state = st }))
+    ∙ ap (λ z. Ok (record { arms = z; found = found; state = st })) (alone done)

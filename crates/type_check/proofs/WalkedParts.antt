@@ -84,7 +84,7 @@ pub arguments_end : (c : Scope) (xs : List e.Expr) (ps : List t.Ty) (i : ℕ) (d
     onward before_arguments done (read_arguments c (e.exprs (drop i xs)) (drop i ps) i f st) ≡ Ok (record { parts = s.parts done; finds = f; state = st })
 arguments_end c xs ps i done f st h =
     ends (step c) next add (all c) before_arguments push (λ u. record { parts = s.no_parts; finds = u.1.1.0; state = u.1.1.1 }) (λ u. refl) xs i done (drop i ps, (i, (f, st))) h
-    ∙ (λ j. Ok (record { parts = alone done j; finds = f; state = st }))
+    ∙ ap (λ z. Ok (record { parts = z; finds = f; state = st })) (alone done)
 
 -- ---- by name
 
@@ -167,4 +167,4 @@ pub inits_end : (c : Scope) (fs : Fields) (xs : List Init) (i : ℕ) (done : Par
     onward before_arguments done (read_inits c (e.inits (drop i xs)) fs (inits_seen done) f st) ≡ Ok (record { parts = s.parts done; finds = f; state = st })
 inits_end c fs xs i done f st h =
     ends (init_step c fs) (init_next fs) (init_add fs) (init_all c fs) before_arguments (init_push fs) (λ u. record { parts = s.no_parts; finds = u.1.0; state = u.1.1 }) (λ u. refl) xs i done (inits_seen done, (f, st)) h
-    ∙ (λ j. Ok (record { parts = alone done j; finds = f; state = st }))
+    ∙ ap (λ z. Ok (record { parts = z; finds = f; state = st })) (alone done)

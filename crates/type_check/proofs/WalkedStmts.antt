@@ -63,4 +63,4 @@ pub stmts_end : (c : Scope) (xs : List e.Stmt) (i : ℕ) (done : List s.Stmt) (s
     onward before_stmts (done, stops) (read_stmts c (e.stmts (drop i xs)) st) ≡ Ok ((s.stmts done, stops), st)
 stmts_end c xs i done stops st h =
     ends (read_stmt c) next add (λ ys. read_stmts c (e.stmts ys)) before_stmts push (λ u. ((s.no_stmts, false), u)) (λ u. refl) xs i (done, stops) st h
-    ∙ (λ j. Ok ((alone done j, or_nothing stops j), st))
+    ∙ ap (λ z. Ok ((z, stops || false), st)) (alone done) ∙ ap (λ b. Ok ((s.stmts done, b), st)) (or_nothing stops)

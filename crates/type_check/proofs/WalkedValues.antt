@@ -65,4 +65,4 @@ pub values_end : (c : Scope) (xs : List e.Expr) (ws : List Expected) (i : ℕ) (
     onward before_values done (read_all c (e.exprs (drop i xs)) (drop i ws) st) ≡ Ok (s.values done, st)
 values_end c xs ws i done st h =
     ends (step c) next add (all c) before_values push (λ u. (s.no_values, u.1)) (λ u. refl) xs i done (drop i ws, st) h
-    ∙ (λ j. Ok (alone done j, st))
+    ∙ ap (λ z. Ok (z, st)) (alone done)

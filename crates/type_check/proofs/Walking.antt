@@ -73,6 +73,6 @@ module _ {A S M D L : Type 0} (step : A → S → Result M Fault) (next : A → 
       onward before d (all (drop i xs) u) ≡ Err f
   fails t xs i d x u f h q e = ap (onward before d) (one t xs i x u (Err f) h q e)
 
-  pub ends : (end : S → L) → ((u : S) → all [] u ≡ Ok (end u)) → (xs : List A) (i : ℕ) (d : D) (u : S) → length xs ≤ i →
-      onward before d (all (drop i xs) u) ≡ Ok (before d (end u))
-  ends end e xs i d u h = ap (λ z. onward before d (all z u)) (drop_all xs i h) ∙ ap (onward before d) (e u)
+  pub ends : (rest : S → L) → ((u : S) → all [] u ≡ Ok (rest u)) → (xs : List A) (i : ℕ) (d : D) (u : S) → length xs ≤ i →
+      onward before d (all (drop i xs) u) ≡ Ok (before d (rest u))
+  ends rest e xs i d u h = ap (λ z. onward before d (all z u)) (drop_all xs i h) ∙ ap (onward before d) (e u)

@@ -32,6 +32,7 @@ use type_values::expecting::{for_arm, is_mismatch};
 use type_values::values::{gives, is_endless, raw_type};
 
 /// An `if`.
+#[derive(Drop)]
 pub(crate) struct Branch<'a> {
     pub(crate) span: Span,
     pub(crate) condition: &'a Expr,
@@ -40,6 +41,7 @@ pub(crate) struct Branch<'a> {
 }
 
 /// A `match`.
+#[derive(Drop)]
 pub(crate) struct Select<'a> {
     pub(crate) span: Span,
     pub(crate) scrutinee: &'a Expr,

@@ -27,6 +27,7 @@ use type_values::fields::fields_of;
 use type_values::written::arguments_lists;
 
 /// A call of a function, or of a constructor whose parts stand by place.
+#[derive(Drop)]
 pub(crate) struct Call<'a> {
     pub(crate) span: Span,
     pub(crate) callee: &'a Callee,
@@ -35,6 +36,7 @@ pub(crate) struct Call<'a> {
 }
 
 /// A constructor whose parts stand by name in braces.
+#[derive(Drop)]
 pub(crate) struct Braces<'a> {
     pub(crate) span: Span,
     pub(crate) decl: TypeId,

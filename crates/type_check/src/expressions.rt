@@ -1,10 +1,11 @@
 //! Expressions, and tuples.
-ghost use Rattle.std.specs.Prelude.{length};
+ghost use Rattle.std.specs.Prelude.{length, slice_get, unwrap_or};
 ghost use Rattle.rust_ast.specs.Resolved as e;
 ghost use Rattle.rust_ast.specs.Spelled as s;
 ghost use Rattle.type_check.specs.Gives.{GivesAs};
 ghost use Rattle.type_check.specs.Parts.{operand};
 ghost use Rattle.type_rules.specs.Bodies as spec;
+ghost use Rattle.type_rules.specs.Forms.{none};
 ghost use Rattle.type_rules.specs.Operands as rules;
 ghost use Rattle.type_values.specs.Gives.{Gives};
 
@@ -200,6 +201,24 @@ fn read_tuple(
     gives(tuple(alloc, span, values)?, state)
 }
 
+/// A tuple's part, of which the expectation in this place is had, or nothing where there is none.
+#[cycle(reading)]
+fn read_part(
+    alloc: Global,
+    scope: &Scope,
+    part: &Expr,
+    expected: &[Expected],
+    place: usize,
+    state: &mut State,
+) -> Result<Val, TypeFault>
+    ensures { Gives (rules.value_of (operand scope.now part.now) (unwrap_or (slice_get expected.now place) none) state.old) result state.new }
+{
+    match at(expected, place) {
+        Some(wanted) => Ok(read_value(alloc, scope, part, wanted, state)?),
+        None => Ok(read_value(alloc, scope, part, &nothing(), state)?),
+    }
+}
+
 /// A tuple's parts from left to right.
 #[cycle(reading)]
 fn read_all(
@@ -211,11 +230,10 @@ fn read_all(
 ) -> Result<List<Val>, TypeFault>
     ensures { GivesAs s.values (spec.read_all scope.now (e.exprs parts.now) expected.now state.old) result state.new }
 {
-    let unexpected = nothing();
     let mut done = List::new(alloc);
     for i in 0..parts.len() {
-        let wanted = at(expected, i).unwrap_or(&unexpected);
-        done.push(read_value(alloc, scope, &parts[i], wanted, state)?)?;
+        let held = read_part(alloc, scope, &parts[i], expected, i, state)?;
+        done.push(held)?;
     }
     Ok(done)
 }

@@ -18,6 +18,7 @@ use type_values::states::{enter, leave};
 use type_values::values::gives;
 
 /// A loop.
+#[derive(Drop)]
 pub(crate) struct Forever<'a> {
     pub(crate) span: Span,
     pub(crate) number: u32,

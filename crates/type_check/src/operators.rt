@@ -24,6 +24,7 @@ use type_values::type_facts::is_integer;
 use type_values::values::value_type;
 
 /// Two operands, and the span of the whole.
+#[derive(Drop)]
 pub(crate) struct Pair<'a> {
     pub(crate) span: Span,
     pub(crate) left: &'a Expr,

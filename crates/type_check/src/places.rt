@@ -55,6 +55,7 @@ pub(crate) fn read_borrow(
 }
 
 /// `e.f`: its span, `e`, and `f` with its span.
+#[derive(Drop)]
 pub(crate) struct FieldAccess<'a> {
     pub(crate) span: Span,
     pub(crate) of: &'a Expr,

@@ -124,7 +124,7 @@ fn first_type(alloc: Global, params: &[Ty], variable: usize) -> Result<Ty, NoMem
 }
 
 /// The types of the variables where a body begins.
-#[tactic(auto, using(crate::proofs::Beginning::types_are))]
+#[tactic(auto, using(crate::proofs::Beginning::one_more))]
 fn first_types(alloc: Global, params: &[Ty], count: usize) -> Result<List<Ty>, NoMem>
     ensures { IfOk result (λ ts. ts ≡ checked.first_types params.now count) }
 {
@@ -152,7 +152,8 @@ fn enter_function(
     function: &Function,
     sig: &Sig,
 ) -> Result<(), NoMem>
-    ensures { OnOk result (scope.new ≡ spec.scope_of scope.old.decls scope.old.sigs function.now.variables sig.now) }
+    ensures kept { (scope.new.decls ≡ scope.old.decls) × (scope.new.sigs ≡ scope.old.sigs) }
+    ensures entered { OnOk result (scope.new ≡ spec.scope_of scope.old.decls scope.old.sigs function.now.variables sig.now) }
 {
     scope.variables = copy_variables(alloc, function.variables.as_slice())?;
     scope.result = sig.result.try_clone(alloc)?;
@@ -230,7 +231,7 @@ fn typed_functions(
 ///
 /// `At` with the kind of the fault and where it stands; `Limit` where a type has more than 1,000
 /// nodes. `Memory` may come at any program.
-#[tactic(auto, unfolding(type_rules::specs::Programs::typed_bodies, type_rules::specs::Programs::typed_program))]
+#[tactic(auto, unfolding(type_rules::specs::Programs::typed_bodies), using(crate::proofs::Checking::whole, crate::proofs::Checking::is_typed))]
 pub fn check(alloc: Global, program: &Resolved, sigs: &[Sig]) -> Result<Typed, TypeFault>
     requires { checked.AreSound program.now sigs.now }
     ensures { checked.IsChecked program.now result }

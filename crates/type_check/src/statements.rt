@@ -59,6 +59,7 @@ pub(crate) fn read_block(
 }
 
 /// A block with a last expression.
+#[derive(Drop)]
 struct WithLast<'a> {
     span: Span,
     stmts: &'a [Stmt],
@@ -165,6 +166,7 @@ fn read_run(
 }
 
 /// A `let` with a value.
+#[derive(Drop)]
 struct Let<'a> {
     span: Span,
     pat: &'a Pat,

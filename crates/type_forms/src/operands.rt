@@ -97,6 +97,7 @@ pub fn type_or_unit(alloc: Global, expected: &Expected) -> Result<Ty, NoMem>
 }
 
 /// An integer as it is written.
+#[derive(Drop)]
 pub struct Digits {
     pub span: Span,
     pub negative: bool,

@@ -23,7 +23,7 @@ use type_values::type_facts::{is_integer_or_bool, is_signed_integer};
 use type_values::values::{gives, of_type, value_type};
 
 /// An operator whose operands have one type.
-#[derive(Clone, Copy, Debug)]
+#[derive(Clone, Copy)]
 pub enum Operator {
     /// It gives a value of that type.
     Binary(BinOp),

@@ -70,7 +70,7 @@ pub fn strip(alloc: Global, span: Span, raw: Raw) -> Result<Raw, NoMem>
 }
 
 /// A field and its name.
-#[derive(Clone, Copy)]
+#[derive(Drop)]
 pub struct Named<'a> {
     /// Where the name stands.
     pub span: Span,

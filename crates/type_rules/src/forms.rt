@@ -4,9 +4,14 @@ use rust_ast::spelled::{Place, Val};
 use std::marker::Model;
 
 /// What is expected of an expression.
-#[derive(Drop)]
 pub struct Expected {
     pub node: ExpectedNode,
+}
+
+impl Drop for Expected {
+    fn drop(self) {
+        let Expected { node: _ } = self;
+    }
 }
 
 /// The forms of `Expected`.
@@ -21,9 +26,14 @@ pub enum ExpectedNode {
 }
 
 /// What an expression is.
-#[derive(Drop)]
 pub struct Raw {
     pub node: RawNode,
+}
+
+impl Drop for Raw {
+    fn drop(self) {
+        let Raw { node: _ } = self;
+    }
 }
 
 /// The forms of `Raw`.
@@ -47,6 +57,19 @@ impl Model for Expected {
     ghost view = { λ e. expected_of e.node };
 }
 
+impl Expected {
+    ghost use Rattle.std.specs.Prelude.{◌≡◌};
+    ghost use Rattle.type_rules.specs.FormsView.{expected_of};
+
+    /// The form, taken out.
+    pub fn into_node(self) -> ExpectedNode
+        ensures { expected_of result ≡ self }
+    {
+        let Expected { node } = self;
+        node
+    }
+}
+
 impl Model for Raw {
     ghost use Rattle.type_rules.specs.Forms.{Raw, coded_raw};
 
@@ -57,4 +80,17 @@ impl Model for Raw {
     ghost use Rattle.type_rules.specs.FormsView.{raw_of};
 
     ghost view = { λ e. raw_of e.node };
+}
+
+impl Raw {
+    ghost use Rattle.std.specs.Prelude.{◌≡◌};
+    ghost use Rattle.type_rules.specs.FormsView.{raw_of};
+
+    /// The form, taken out.
+    pub fn into_node(self) -> RawNode
+        ensures { raw_of result ≡ self }
+    {
+        let Raw { node } = self;
+        node
+    }
 }

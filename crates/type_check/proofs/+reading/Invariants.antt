@@ -15,6 +15,9 @@ decreases-expressions::read_value l = 12 * e.nodes_expr l.expr.now + 1
 abbrev pub decreases-expressions::read_tuple : goal.decreases-expressions::read_tuple
 decreases-expressions::read_tuple l = 12 * e.nodes_exprs (e.exprs l.parts.now) + 1
 
+abbrev pub decreases-expressions::read_part : goal.decreases-expressions::read_part
+decreases-expressions::read_part l = 12 * e.nodes_expr l.part.now + 2
+
 abbrev pub decreases-expressions::read_all : goal.decreases-expressions::read_all
 decreases-expressions::read_all l = 12 * e.nodes_exprs (e.exprs l.parts.now)
 
