@@ -52,15 +52,20 @@ abbrev all : Scope → s.Scrutinee → Expected → List (p.Pat × e.Expr) → K
 all c k w xs u = read_arms c (e.arms xs) k w u.0 u.1
 
 -- two parts of an arm as one step
+abbrev as_step : q.Pat × List t.Ty → s.Val × State → Result Step Fault
+as_step b r = Ok ((b.0, r.0), r.1)
+
+abbrev put_arm : q.Pat → s.Val → Arms → Result Arms Fault
+put_arm y v l = Ok (record { arms = s.more_arms y v l.arms; found = l.found; state = l.state })
+
 value_then : (b : q.Pat × List t.Ty) (o : Valued) (f : s.Val → State → Result Arms Fault) →
-    and_then o (λ r. and_then (f r.0 r.1) (λ l. Ok (record { arms = s.more_arms b.0 r.0 l.arms; found = l.found; state = l.state })))
-    ≡ and_then (and_then o (λ r. Ok ((b.0, r.0), r.1))) (λ m. and_then (f m.0.1 m.1) (λ l. Ok (record { arms = s.more_arms m.0.0 m.0.1 l.arms; found = l.found; state = l.state })))
+    and_then o (λ r. and_then (f r.0 r.1) (put_arm b.0 r.0)) ≡ and_then (and_then o (as_step b)) (λ m. and_then (f m.0.1 m.1) (put_arm m.0.0 m.0.1))
 value_then b (Ok r) f = refl
 value_then b (Err x) f = refl
 
 pattern_then : (o : Bound) (g : q.Pat × List t.Ty → Valued) (f : s.Val → State → Result Arms Fault) →
-    and_then o (λ b. and_then (g b) (λ r. and_then (f r.0 r.1) (λ l. Ok (record { arms = s.more_arms b.0 r.0 l.arms; found = l.found; state = l.state }))))
-    ≡ and_then (and_then o (λ b. and_then (g b) (λ r. Ok ((b.0, r.0), r.1)))) (λ m. and_then (f m.0.1 m.1) (λ l. Ok (record { arms = s.more_arms m.0.0 m.0.1 l.arms; found = l.found; state = l.state })))
+    and_then o (λ b. and_then (g b) (λ r. and_then (f r.0 r.1) (put_arm b.0 r.0)))
+    ≡ and_then (and_then o (λ b. and_then (g b) (as_step b))) (λ m. and_then (f m.0.1 m.1) (put_arm m.0.0 m.0.1))
 pattern_then (Ok b) g f = value_then b (g b) f
 pattern_then (Err x) g f = refl
 

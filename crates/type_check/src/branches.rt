@@ -19,12 +19,11 @@ use rust_ast::spelled::{Scrutinee, Val};
 use rust_ast::spelled_patterns::Pat;
 use std::alloc::Global;
 use type_forms::branches::{
-    block_value, branch, joined, meeting, scrutinee_of, scrutinee_type, select,
+    block_value, bound_at, branch, joined, scrutinee_of, scrutinee_type, select,
 };
 use type_forms::coverage::are_uncovered;
 use type_forms::operands::{bool_hint, nothing};
 use type_forms::spans::span_of;
-use type_patterns::pattern;
 use type_rules::forms::{Expected, Raw};
 use type_rules::{KindOfFault, Scope, State};
 use type_values::TypeFault;
@@ -159,8 +158,7 @@ fn read_arm(
 ) -> Result<(Pat, Val), TypeFault>
     ensures { Gives (arm scope.now part.now.0 part.now.1 scrutinee.now expected.now state.old) result state.new }
 {
-    let met = meeting(alloc, scrutinee)?;
-    let bound = pattern(alloc, &scope.decls, &part.0, &met, &mut state.types)?;
+    let bound = bound_at(alloc, &scope.decls, &part.0, scrutinee, &mut state.types)?;
     let held = read_value(alloc, scope, &part.1, expected, state)?;
     Ok((bound, held))
 }

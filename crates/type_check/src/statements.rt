@@ -9,21 +9,20 @@ ghost use Rattle.type_values.specs.Gives.{Gives};
 
 use crate::branches::read_scrutinee;
 use crate::expressions::read_value;
-use aen_base::{Boxed, List, Span};
+use aen_base::{List, Span};
 use core_ty::Ty;
 use rust_ast::patterns::Pat;
 use rust_ast::resolved::{Block, BlockNode, Expr, Stmt, StmtNode};
 use rust_ast::spelled;
 use rust_ast::written::Written;
 use std::alloc::Global;
-use type_forms::branches::{meeting, scrutinee_type};
+use type_forms::branches::{bound_at, scrutinee_type};
 use type_forms::coverage::is_uncovered_by;
 use type_forms::spans::is_simple;
 use type_forms::statements::{
-    block_with, block_without, expects_unit, for_statement, let_nothing, met_as, open_up,
+    block_with, block_without, bound_as, expects_unit, for_statement, let_nothing, open_up,
     put_or_pass, run,
 };
-use type_patterns::pattern;
 use type_rules::forms::Expected;
 use type_rules::{KindOfFault, Scope, State};
 use type_values::TypeFault;
@@ -206,8 +205,8 @@ fn read_let_simple(
 {
     let wanted = want_type(alloc, ty.as_ref())?;
     let held = read_value(alloc, scope, parts.value, &wanted, state)?;
-    let met = met_as(alloc, ty, value_type(&held))?;
-    let bound = pattern(alloc, &scope.decls, parts.pat, &met, &mut state.types)?;
+    let other = value_type(&held);
+    let bound = bound_as(alloc, &scope.decls, parts.pat, ty, other, &mut state.types)?;
     Ok(put_or_pass(alloc, parts.span, &bound, held)?)
 }
 
@@ -224,8 +223,7 @@ fn read_let_pattern(
 {
     let wanted = want_type(alloc, ty.as_ref())?;
     let scrutinee = read_scrutinee(alloc, scope, parts.value, &wanted, state)?;
-    let met = meeting(alloc, &scrutinee)?;
-    let bound = pattern(alloc, &scope.decls, parts.pat, &met, &mut state.types)?;
+    let bound = bound_at(alloc, &scope.decls, parts.pat, &scrutinee, &mut state.types)?;
     if is_uncovered_by(alloc, &scope.decls, scrutinee_type(&scrutinee), &bound)? {
         return Err(TypeFault::At(parts.span, KindOfFault::Uncovered));
     }

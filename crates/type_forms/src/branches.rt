@@ -4,19 +4,21 @@ ghost use Rattle.std.specs.Prelude.{◌≡◌, IfOk, None, [], ◌∷◌, true, 
 ghost use Rattle.rust_ast.specs.Spelled as s;
 ghost use Rattle.rust_ast.specs.SpelledPatterns as q;
 ghost use Rattle.type_forms.specs.Copied.{IsCopied};
-ghost use Rattle.type_patterns.specs.Met.{as_met};
+ghost use Rattle.type_rules.specs.Patterns.{pattern};
 ghost use Rattle.type_rules.specs.Branches as spec;
 ghost use Rattle.type_rules.specs.Places as places;
 ghost use Rattle.type_values.specs.Gives.{Answers, Gives};
 
 use aen_base::{Boxed, List, NoMem, Span};
-use core_ty::{Ty, TyNode};
+use core_ty::{Ty, TyNode, TypeDecl};
+use rust_ast::patterns;
 use rust_ast::spelled::{
     Block, BlockNode, Form, FormNode, Place, Scrutinee, ScrutineeNode, Val, ValNode,
 };
 use rust_ast::spelled_patterns::{Pat, PatNode};
 use std::alloc::Global;
-use type_patterns::Met;
+use type_patterns::binding::Around;
+use type_patterns::patterns::pattern;
 use type_rules::State;
 use type_rules::forms::{Expected, ExpectedNode, Raw, RawNode};
 use type_values::TypeFault;
@@ -118,15 +120,28 @@ fn is_behind(scrutinee: &Scrutinee) -> bool
     }
 }
 
-/// What a pattern meets at a scrutinee.
-pub fn meeting(alloc: Global, scrutinee: &Scrutinee) -> Result<Met, NoMem>
-    ensures { IfOk result (λ m. as_met m ≡ spec.meeting scrutinee.now) }
+/// What a pattern binds at a scrutinee. At fault as the pattern is.
+pub fn bound_at(
+    alloc: Global,
+    decls: &List<TypeDecl>,
+    pat: &patterns::Pat,
+    scrutinee: &Scrutinee,
+    types: &mut List<Ty>,
+) -> Result<Pat, TypeFault>
+    ensures { Gives (pattern decls.now pat.now (spec.meeting scrutinee.now) types.old) result types.new }
 {
-    Ok(Met {
-        part: Some(scrutinee_type(scrutinee).try_clone(alloc)?),
+    let around = Around {
         kind: None,
         behind: is_behind(scrutinee),
-    })
+    };
+    pattern(
+        alloc,
+        decls,
+        pat,
+        Some(scrutinee_type(scrutinee)),
+        around,
+        types,
+    )
 }
 
 /// The type of the first arm that doesn't diverge, after one more.

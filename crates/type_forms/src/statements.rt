@@ -4,7 +4,7 @@ ghost use Rattle.std.specs.Prelude.{◌≡◌, IfOk, Some, false, if◌then◌el
 ghost use Rattle.core_ty.specs.Types as t;
 ghost use Rattle.rust_ast.specs.Spelled as s;
 ghost use Rattle.rust_ast.specs.Written as w;
-ghost use Rattle.type_patterns.specs.Met.{as_met};
+ghost use Rattle.type_rules.specs.Patterns.{pattern};
 ghost use Rattle.type_rules.specs.Branches as branches;
 ghost use Rattle.type_rules.specs.Expecting as expecting;
 ghost use Rattle.type_rules.specs.Forms as forms;
@@ -18,13 +18,14 @@ use crate::coverage::is_uncovered_by;
 use crate::operands::type_or_unit;
 use crate::spans::pattern_span;
 use aen_base::{Boxed, List, NoMem, Span};
-use core_ty::{Ty, TyNode};
+use core_ty::{Ty, TyNode, TypeDecl};
 use rust_ast::patterns;
 use rust_ast::spelled::{Block, BlockNode, Scrutinee, Stmt, StmtNode, Val};
 use rust_ast::spelled_patterns::{Pat, PatNode};
 use rust_ast::written::Written;
 use std::alloc::Global;
-use type_patterns::{Met, names_in, pattern};
+use type_patterns::binding::Around;
+use type_patterns::patterns::{names_in, pattern};
 use type_rules::forms::{Expected, ExpectedNode};
 use type_rules::{KindOfFault, Scope, State};
 use type_values::TypeFault;
@@ -64,19 +65,39 @@ pub fn for_statement(semicolon: bool) -> Expected
     Expected { node }
 }
 
-/// What the pattern of a `let` meets: the written type, else that of the value.
-pub fn met_as(alloc: Global, ty: &Option<Ty>, other: &Ty) -> Result<Met, NoMem>
-    ensures { IfOk result (λ m. as_met m ≡ spec.met_as (unwrap_or ty.now other.now)) }
+/// What the pattern of a `let` binds: of the written type, else of that of the value. At fault as the
+/// pattern is.
+pub fn bound_as(
+    alloc: Global,
+    decls: &List<TypeDecl>,
+    pat: &patterns::Pat,
+    ty: &Option<Ty>,
+    other: &Ty,
+    types: &mut List<Ty>,
+) -> Result<Pat, TypeFault>
+    ensures { Gives (pattern decls.now pat.now (spec.met_as (unwrap_or ty.now other.now)) types.old) result types.new }
 {
-    let part = match ty {
-        Some(ty) => ty.try_clone(alloc)?,
-        None => other.try_clone(alloc)?,
-    };
-    Ok(Met {
-        part: Some(part),
+    match ty {
+        Some(ty) => bound_to(alloc, decls, pat, ty, types),
+        None => bound_to(alloc, decls, pat, other, types),
+    }
+}
+
+/// What a pattern binds of this type.
+fn bound_to(
+    alloc: Global,
+    decls: &List<TypeDecl>,
+    pat: &patterns::Pat,
+    ty: &Ty,
+    types: &mut List<Ty>,
+) -> Result<Pat, TypeFault>
+    ensures { Gives (pattern decls.now pat.now (spec.met_as ty.now) types.old) result types.new }
+{
+    let around = Around {
         kind: None,
         behind: false,
-    })
+    };
+    pattern(alloc, decls, pat, Some(ty), around, types)
 }
 
 /// `let` without a value. At fault where no type is written, and as its pattern is.
@@ -108,8 +129,7 @@ fn let_later(
 ) -> Result<(Stmt, bool), TypeFault>
     ensures { Gives (spec.let_later scope.now span pat.now (Some ty.now) state.old) result state.new }
 {
-    let met = met_as(alloc, &None, ty)?;
-    let bound = pattern(alloc, &scope.decls, pat, &met, &mut state.types)?;
+    let bound = bound_to(alloc, &scope.decls, pat, ty, &mut state.types)?;
     if is_uncovered_by(alloc, &scope.decls, ty, &bound)? {
         return Err(TypeFault::At(span, KindOfFault::Uncovered));
     }
