@@ -11,6 +11,7 @@ pub mod Readings
 pub mod Unique
 pub mod Leading
 pub mod Ways
+pub mod Openings
 mod Entering
 pub mod Turning
 pub mod Whole

@@ -32,7 +32,7 @@ some_or true o = refl
 some_or false None = refl
 some_or false (Some k) = refl
 
-through_none : (i : ℕ) (o other : Option (List ℕ)) → through i o other ≡ None → (o ≡ None) × (other ≡ None)
+pub through_none : (i : ℕ) (o other : Option (List ℕ)) → through i o other ≡ None → (o ≡ None) × (other ≡ None)
 through_none i None other h = (refl, h)
 through_none i (Some w) other h = absurd cc
 

@@ -1,21 +1,15 @@
 -- What a stack of symbols that are to come is after a turn, and what the turn took.
-use Rattle.std.specs.Prelude.{◌≡◌, Bool, true, false, List, ◌++◌, Option, Some, None}
+use Rattle.std.specs.Prelude.{◌≡◌, Bool, true, false, List, Option, Some, None}
 use Rattle.table_reader.specs.declared.symbol.Symbol.{Symbol}
 use Rattle.table_reader.specs.declared.take.Take.{Take}
 use Rattle.table_reader.specs.declared.take.Take.TheVariants as K
-use Rattle.table_reader.specs.Steps.{Turn, refused, taken, left}
+use Rattle.table_reader.specs.Steps.{Turn, refused, taken, left, before, turned}
 
--- of the productions of a part: what was chosen comes before what came after the part; else all is as before
-abbrev pub Chooses : {T N L : Type 0} → Turn T N L → Take L → List (Symbol T N) → List (Symbol T N) → Type 0
-Chooses refused K.No old new = new ≡ old
-Chooses (taken p) K.Whole old new = new ≡ p ++ old
-Chooses (left p r) (K.Front piece q) old new = (q ≡ r) × (new ≡ p ++ old)
-Chooses refused K.Whole old new = ⊥
-Chooses refused (K.Front piece q) old new = ⊥
-Chooses (taken p) K.No old new = ⊥
-Chooses (taken p) (K.Front piece q) old new = ⊥
-Chooses (left p r) K.No old new = ⊥
-Chooses (left p r) K.Whole old new = ⊥
+-- of the productions of a part: whatever another turn gives, with these symbols after the part a token takes the
+-- lexeme, and what is new is to come after it; or none goes on, and all is as before
+abbrev pub Enters : {T N L : Type 0} → (T → L → Take L) → L → Turn T N L → Option T → List (Symbol T N) → List (Symbol T N) → Type 0
+Enters takes l c None old new = (c ≡ refused) × (new ≡ old)
+Enters {T} {N} {L} takes l c (Some t) old new = (other : Turn T N L) → before old c other ≡ turned (takes t l) new
 
 -- of all symbols
 abbrev pub Turns : {T N L : Type 0} → Turn T N L → Take L → List (Symbol T N) → Type 0

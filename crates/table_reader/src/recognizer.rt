@@ -1,11 +1,14 @@
 //! Finds the first lexeme that ends every text, on a stack of the symbols that are to come.
 
-ghost use Rattle.std.specs.Prelude.{◌≡◌, [], ◌∷◌, ◌++◌, reverse, IfOk, OnOk, MatchOption};
+ghost use Rattle.std.specs.Prelude.{◌≡◌, [], ◌∷◌, ◌++◌, ◌<◌, List, length, reverse, IfOk, OnOk, MatchOption};
+ghost use Rattle.table_reader.specs.declared.symbol.Symbol.{Symbol};
 ghost use Rattle.table_reader.specs.declared.symbol.Symbol.TheVariants as S;
 ghost use Rattle.table_reader.specs.Derivations.{Derives, IsFault, rows};
+ghost use Rattle.table_reader.specs.Machine.{HasFirst, IsAt};
 ghost use Rattle.table_reader.specs.Steps as steps;
-ghost use Rattle.table_reader.specs.Stacks.{Takes, Turns, Chooses};
+ghost use Rattle.table_reader.specs.Stacks.{Enters, Takes, Turns};
 
+use crate::choice::{find, symbols_at};
 use crate::grammar::Grammar;
 use crate::symbol::{Production, Symbol};
 use crate::take::Take;
@@ -34,9 +37,10 @@ fn fault_of<G: Grammar>(
     ensures { IfOk result (λ o. o ≡ steps.fault_from G.takes G.productions G.rank G.weight (S.Part start ∷ []) lexemes.now) }
 {
     let mut coming = List::new(alloc);
+    let mut ways = List::new(alloc);
     coming.push(Symbol::Part(start))?;
     for (place, lexeme) in lexemes.iter().enumerate() {
-        if !take::<G>(&mut coming, lexeme)? {
+        if !take::<G>(&mut coming, &mut ways, lexeme)? {
             return Ok(Some(place));
         }
     }
@@ -47,18 +51,20 @@ fn fault_of<G: Grammar>(
     }
 }
 
-/// Takes a lexeme, if it can stand here. The symbols that are to come stand newest last.
+/// Takes a lexeme, if it can stand here. The symbols that are to come stand newest last; each way down
+/// is put on `ways` and taken off again.
 fn take<G: Grammar>(
     coming: &mut List<Symbol<G::Terminal, G::Part>>,
+    ways: &mut List<usize>,
     lexeme: &G::Lexeme,
 ) -> Result<bool, NoMem>
     ensures { IfOk result (λ taken. Takes (steps.step G.takes G.productions G.rank G.weight (reverse coming.old) lexeme.now) taken (reverse coming.new)) }
 {
-    match turn::<G>(coming, lexeme)? {
+    match turn::<G>(coming, ways, lexeme)? {
         Take::No => Ok(false),
         Take::Whole => Ok(true),
         Take::Front { taken: _, left } => {
-            let taken = take_left::<G>(coming, left)?;
+            let taken = take_left::<G>(coming, ways, left)?;
             Ok(taken)
         }
     }
@@ -67,13 +73,14 @@ fn take<G: Grammar>(
 /// Takes what is left of a lexeme after a front of it, if it can stand here.
 fn take_left<G: Grammar>(
     coming: &mut List<Symbol<G::Terminal, G::Part>>,
+    ways: &mut List<usize>,
     lexeme: G::Lexeme,
 ) -> Result<bool, NoMem>
     ensures { IfOk result (λ taken. Takes (steps.step G.takes G.productions G.rank G.weight (reverse coming.old) lexeme) taken (reverse coming.new)) }
 {
     let mut lexeme = lexeme;
     loop {
-        match turn::<G>(coming, &lexeme)? {
+        match turn::<G>(coming, ways, &lexeme)? {
             Take::No => return Ok(false),
             Take::Whole => return Ok(true),
             Take::Front { taken: _, left } => lexeme = left,
@@ -85,6 +92,7 @@ fn take_left<G: Grammar>(
 /// empty.
 fn turn<G: Grammar>(
     coming: &mut List<Symbol<G::Terminal, G::Part>>,
+    ways: &mut List<usize>,
     lexeme: &G::Lexeme,
 ) -> Result<Take<G::Lexeme>, NoMem>
     ensures { IfOk result (λ took. Turns (steps.turn G.takes G.productions G.rank G.weight (reverse coming.old) lexeme.now) took (reverse coming.new)) }
@@ -92,99 +100,68 @@ fn turn<G: Grammar>(
     while let Some(symbol) = coming.pop() {
         match symbol {
             Symbol::Token(terminal) => return Ok(G::takes(terminal, lexeme)),
-            Symbol::Part(part) => match begin::<G>(coming, G::rank(), part, lexeme)? {
-                Take::No => {
+            Symbol::Part(part) => match enter::<G>(coming, ways, part, lexeme)? {
+                Some(terminal) => return Ok(G::takes(terminal, lexeme)),
+                None => {
                     if !has_empty(G::productions(part)) {
                         return Ok(Take::No);
                     }
                 }
-                took => return Ok(took),
             },
         }
     }
     Ok(Take::No)
 }
 
-/// Takes a lexeme or its front by the first production of a part that goes on with it, and puts what
-/// is to come after it there. Parts that begin productions are of less rank.
-#[cycle(beginnings)]
-fn begin<G: Grammar>(
+/// Puts what is to come of a part there that begins with a lexeme, and gives the token that takes the
+/// lexeme. Where the part does not begin with it, all is as before. The way down to the token is found
+/// before any production is opened.
+fn enter<G: Grammar>(
     coming: &mut List<Symbol<G::Terminal, G::Part>>,
-    rank: usize,
+    ways: &mut List<usize>,
     part: G::Part,
     lexeme: &G::Lexeme,
-) -> Result<Take<G::Lexeme>, NoMem>
-    ensures { IfOk result (λ took. Chooses (steps.chosen G.takes G.productions G.rank G.weight rank (G.productions part) lexeme.now) took (reverse coming.old) (reverse coming.new)) }
+) -> Result<Option<G::Terminal>, NoMem>
+    ensures { IfOk result (λ entered. Enters G.takes lexeme.now (steps.chosen G.takes G.productions G.rank G.weight G.rank (G.productions part) lexeme.now) entered (reverse coming.old) (reverse coming.new)) }
+{
+    if !find::<G>(ways, G::rank(), part, lexeme)? {
+        return Ok(None);
+    }
+    let mut part = part;
+    while let Some(place) = ways.pop() {
+        match open::<G>(coming, part, place)? {
+            Symbol::Token(terminal) => return Ok(Some(terminal)),
+            Symbol::Part(next) => part = next,
+        }
+    }
+    unreachable!()
+}
+
+/// Puts a production's symbols there but the first, which it gives.
+fn open<G: Grammar>(
+    coming: &mut List<Symbol<G::Terminal, G::Part>>,
+    part: G::Part,
+    place: usize,
+) -> Result<Symbol<G::Terminal, G::Part>, NoMem>
+    requires { HasFirst G.productions part place }
+    ensures { IfOk result (λ it. (first : Symbol G.Terminal G.Part) (rest : List (Symbol G.Terminal G.Part)) → IsAt (first ∷ rest) place (G.productions part) → (it ≡ first) × (reverse coming.new ≡ rest ++ reverse coming.old)) }
 {
     let productions = G::productions(part);
-    for production in productions {
-        match begin_with::<G>(coming, rank, production.symbols, lexeme)? {
-            Take::No => {}
-            took => return Ok(took),
-        }
-    }
-    Ok(Take::No)
+    let symbols = symbols_at(productions, place);
+    let first = open_with(coming, symbols)?;
+    Ok(first)
 }
 
-/// The same by one production.
-#[cycle(beginnings)]
-fn begin_with<G: Grammar>(
-    coming: &mut List<Symbol<G::Terminal, G::Part>>,
-    rank: usize,
-    symbols: &[Symbol<G::Terminal, G::Part>],
-    lexeme: &G::Lexeme,
-) -> Result<Take<G::Lexeme>, NoMem>
-    ensures { IfOk result (λ took. Chooses (steps.chosen G.takes G.productions G.rank G.weight rank (symbols.now ∷ []) lexeme.now) took (reverse coming.old) (reverse coming.new)) }
+/// The same by the production's symbols.
+fn open_with<S: Copy>(coming: &mut List<S>, symbols: &[S]) -> Result<S, NoMem>
+    requires { 0 < length symbols.now }
+    ensures { IfOk result (λ it. (first : S) (rest : List S) → symbols.now ≡ first ∷ rest → (it ≡ first) × (reverse coming.new ≡ rest ++ reverse coming.old)) }
 {
     let [first, rest @ ..] = symbols else {
-        return Ok(Take::No);
-    };
-    match *first {
-        Symbol::Token(terminal) => take_with::<G>(coming, terminal, rest, lexeme),
-        Symbol::Part(part) => lead::<G>(coming, rank, part, rest, lexeme),
-    }
-}
-
-/// The same by a production that begins with a token.
-fn take_with<G: Grammar>(
-    coming: &mut List<Symbol<G::Terminal, G::Part>>,
-    terminal: G::Terminal,
-    rest: &[Symbol<G::Terminal, G::Part>],
-    lexeme: &G::Lexeme,
-) -> Result<Take<G::Lexeme>, NoMem>
-    ensures { IfOk result (λ took. Chooses (steps.turned (G.takes terminal lexeme.now) rest.now) took (reverse coming.old) (reverse coming.new)) }
-{
-    match G::takes(terminal, lexeme) {
-        Take::No => Ok(Take::No),
-        took => {
-            put(coming, rest)?;
-            Ok(took)
-        }
-    }
-}
-
-/// The same by a production that begins with a part.
-#[cycle(beginnings)]
-fn lead<G: Grammar>(
-    coming: &mut List<Symbol<G::Terminal, G::Part>>,
-    rank: usize,
-    part: G::Part,
-    rest: &[Symbol<G::Terminal, G::Part>],
-    lexeme: &G::Lexeme,
-) -> Result<Take<G::Lexeme>, NoMem>
-    ensures { IfOk result (λ took. Chooses (steps.chosen G.takes G.productions G.rank G.weight rank ((S.Part part ∷ rest.now) ∷ []) lexeme.now) took (reverse coming.old) (reverse coming.new)) }
-{
-    let Some(less) = rank.checked_sub(1) else {
-        return Ok(Take::No);
+        unreachable!()
     };
     put(coming, rest)?;
-    match begin::<G>(coming, less, part, lexeme)? {
-        Take::No => {
-            remove(coming, rest);
-            Ok(Take::No)
-        }
-        took => Ok(took),
-    }
+    Ok(*first)
 }
 
 /// Puts symbols before those that are to come.
@@ -195,15 +172,6 @@ fn put<S: Copy>(coming: &mut List<S>, symbols: &[S]) -> Result<(), NoMem>
         coming.push(*symbol)?;
     }
     Ok(())
-}
-
-/// Takes the symbols off that were put there.
-fn remove<S: Copy>(coming: &mut List<S>, symbols: &[S])
-    ensures { (after : _) → reverse coming.old ≡ symbols.now ++ after → reverse coming.new ≡ after }
-{
-    for _symbol in symbols {
-        coming.pop();
-    }
 }
 
 /// Whether one of these productions is empty.
