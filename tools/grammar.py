@@ -2,12 +2,16 @@
 """Writes a grammar's table from one description: grammar.py DESCRIPTION.py [--check | --show]
 
 The description names classes of lexemes, tokens of the grammar (a class each, or a set of classes), what parts range over,
-and the productions. Written into the crate that it names are
+and the productions. Written into the crate that it names (CRATE) are
 
     src/class.rt, src/terminal.rt, src/part.rt    the symbols as enums
+    src/spellings.rt                              the spelling of each class
+    specs/Classes.antt, specs/Productions.antt    all this and the productions as definitions
+
+and into the crate of the table (TABLE_CRATE, where that is another one)
+
     src/table.rt, src/table/*.rt                  the productions as code
-    src/classes.rt, src/spellings.rt               the classes of each token, the spelling of each class
-    specs/Classes.antt, specs/Productions.antt    all this as definitions
+    src/classes.rt                                the classes of each token
     specs/Follow.antt, specs/Shortest.antt        what may follow a part; tokens that a part derives
     specs/PartsFit.antt, specs/Ends.antt          that the table fits, a line for each part
 
@@ -33,6 +37,7 @@ class Description:
         values = {}
         exec(open(path, encoding="utf-8").read(), values)
         self.crate, self.title, self.start = values["CRATE"], values["TITLE"], values["START"]
+        self.table_crate = values.get("TABLE_CRATE", self.crate)
         self.parameters, self.variables = values.get("PARAMETERS", {}), values.get("VARIABLES", {})
         self.spells_marks = values.get("SPELLS_MARKS", True)
         self.read_classes(values["CLASSES"])
@@ -284,10 +289,11 @@ def main():
         sys.exit(1)
     if "--check" in sys.argv:
         return
-    root = os.path.join(os.path.dirname(os.path.dirname(os.path.abspath(__file__))), "crates", d.crate)
+    root = os.path.join(os.path.dirname(os.path.dirname(os.path.abspath(__file__))), "crates")
     for writer in grammar_files.writers(d, c):
         for name, text in writer():
-            path = os.path.join(root, name)
+            crate, text = grammar_files.placed(d, name, text)
+            path = os.path.join(root, crate, name)
             os.makedirs(os.path.dirname(path), exist_ok=True)
             with open(path, "w", encoding="utf-8") as file:
                 file.write(text)

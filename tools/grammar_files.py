@@ -338,6 +338,26 @@ pub ends : (n : Part) → fault_from takes productions rank weight (S.Part n ∷
 {refl("ends")}"""
 
 
+# Modules of the table's crate.
+OF_TABLE = re.compile(r"(src/(table|classes)|specs/(Follow|Shortest|PartsFit|Ends))\b")
+FITTING = re.compile(r"(?<=Rattle\.)\w+(?=\.specs\.(?:Follow|Shortest|Apart|PartsFit|Ends)\b)")
+SYMBOLS = re.compile(r"^use crate::(?:class|part|terminal)::(?:(\w+)|\{(.*)\});\n", re.M)
+
+
+def placed(d, name, text):
+    """The crate that a file stands in, and its text there: in a crate of its own the table imports the symbols."""
+    if d.table_crate == d.crate or not OF_TABLE.match(name):
+        return d.crate, text
+    imported = sorted({n for one, more in SYMBOLS.findall(text) for n in (one or more).split(", ")})
+    if imported:
+        names = imported[0] if len(imported) == 1 else "{" + ", ".join(imported) + "}"
+        text = SYMBOLS.sub("", text)
+        first = re.search(r"^use (?!crate::)|^\n///|^\npub", text, re.M).start()
+        line = f"use {d.crate}::{names};\n"
+        text = text[:first] + line + text[first:]
+    return d.table_crate, FITTING.sub(d.table_crate, text)
+
+
 def writers(d, c):
     """What writes the files: each gives names and texts."""
     code, definitions = Code(d, c), Definitions(d, c)

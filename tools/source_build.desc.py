@@ -98,6 +98,9 @@ IMPORTS = {
 WAYS_IN = {"types": "types", "patterns": "patterns", "paths": "path_ways", "blocks": "blocks", "operators": "operators",
            "exprs": "expressions", "items": "items"}
 
+# The crate of these modules: two that are checked side by side.
+WAYS_STAND_IN = {"item_ways": "types patterns items", "expression_ways": "path_ways blocks operators expressions"}
+
 # Ways that are no function of code: the values of parts stand for names of one letter.
 PLAIN = {
     "t.bool whole": "Written { node: WrittenNode::Bool(span_of(extent)) }",

@@ -120,6 +120,7 @@ class Machine:
         self.grammar = Description(os.path.join(HERE, described["GRAMMAR"]))
         self.ways = source_ways.read_ways(described["WAYS"])
         self.plain, self.modules, self.imports = given["PLAIN"], given["WAYS_IN"], given["IMPORTS"]
+        self.crate_of = {module: crate for crate, modules in given["WAYS_STAND_IN"].items() for module in modules.split()}
         self.taking = {subject: [tuple(x.strip() for x in line.split(" = ")) for line in lines.strip().split("\n")]
                        for subject, lines in given["VARIANTS"].items()}
         self.variants = [v for variants in self.taking.values() for v in variants]
@@ -146,7 +147,7 @@ class Machine:
     def read_signatures(self):
         self.signatures = {}
         for module in self.modules.values():
-            text = open(os.path.join(WAYS, "src", module + ".rt"), encoding="utf-8").read()
+            text = open(os.path.join(CRATES, self.crate_of[module], "src", module + ".rt"), encoding="utf-8").read()
             for name, params, result in re.findall(r"^pub(?:\(crate\))? fn (\w+)\((.*?)\)(?: -> (.*?))?\n(?: |\{)", text, re.M | re.S):
                 names = re.findall(r"(\w+):(?!:)", params)
                 self.signatures[module, name] = (names[:1] == ["alloc"], [n for n in names if n != "alloc"],
@@ -450,7 +451,7 @@ def write_made(machine):
             more.append(f"use source_values::taking{place}::{{{', '.join(t for t in takes if machine.taken_in(t) == place)}}};")
         for module in sorted(set(machine.modules.values())):
             if f"{module}::" in text:
-                more.append(f"use source_ways::{module};")
+                more.append(f"use {machine.crate_of[module]}::{module};")
         head = f"//! What productions of {section} build. Written by tools/source_build.py.\n\n" + MADE
         for kind, (short, _, _) in ((k, v) for k, v in machine.grammar.parameters.items()):
             if re.search(rf"(?<![\w.]){short}\.", "\n".join(l for l in text.split("\n") if "IsBuilt" in l or "CanBuild" in l)):

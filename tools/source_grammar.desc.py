@@ -1,6 +1,8 @@
 """The grammar of sources as a table (docs/LANGUAGE.md, "Grammar"): what `grammar.py` reads."""
 
 CRATE = "source_grammar"
+# Checked beside the crates that build trees, which need the symbols and the definitions alone.
+TABLE_CRATE = "source_table"
 TITLE = 'docs/LANGUAGE.md, "Grammar"'
 START = "Program"
 

@@ -111,6 +111,7 @@ class TextMachine(source_build.Machine):
         self.grammar = Description(os.path.join(HERE, given["GRAMMAR"]))
         self.imports, self.HELD, self.beside, self.listing = given["IMPORTS"], given["HELD"], {}, {}
         self.modules = {m: m for m in given["WAYS_IN"].split()}
+        self.crate_of = {m: WAYS for m in self.modules}
         self.stands_in = {section: PRODUCTIONS for section in given["KINDS"]}
         kinds = {subject: [tuple(x.strip() for x in line.split(" = ")) for line in lines.strip().split("\n")]
                  for subject, lines in given["KINDS"].items()}

@@ -1,7 +1,8 @@
 use crate::building::build_part;
 use crate::copying::copied;
 use aen_base::NoMem;
-use source_grammar::{Lexeme, Part, SourceGrammar, Terminal};
+use source_grammar::{Lexeme, Part, Terminal};
+use source_table::SourceGrammar;
 use source_values::{Stack, Value};
 use std::alloc::Global;
 use table_reader::{Builds, Grammar, Production, Take};
@@ -12,7 +13,7 @@ pub struct SourceReader;
 impl Grammar for SourceReader {
     ghost use Rattle.source_grammar.specs.Lexemes as spec;
     ghost use Rattle.source_grammar.specs.Productions as table;
-    ghost use Rattle.source_grammar.specs.Fit.{fits};
+    ghost use Rattle.source_table.specs.Fit.{fits};
 
     type Lexeme = Lexeme;
 

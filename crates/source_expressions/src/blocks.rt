@@ -5,6 +5,7 @@ ghost use Rattle.source_grammar.specs.declared.part.Part.TheVariants as N;
 ghost use Rattle.source_values.specs.Stacked.{CanBuild, IsBuilt};
 
 use aen_base::{Boxed, NoMem};
+use expression_ways::blocks;
 use source_values::taking::blocks::{
     take_arm_body, take_arms, take_block, take_body, take_conditional, take_maybe_body,
 };
@@ -13,7 +14,6 @@ use source_values::taking::patterns::take_pat;
 use source_values::taking::types::take_maybe_written;
 use source_values::taking::{take_mark, take_token};
 use source_values::{Stack, Value};
-use source_ways::blocks;
 use source_ways::front_list::FrontList;
 use source_ways::spanned::Spanned;
 use source_ways::spans::{join, span_of};

@@ -7,6 +7,7 @@ ghost use Rattle.source_grammar.specs.declared.part.Context.TheVariants as At;
 ghost use Rattle.source_grammar.specs.declared.part.Level.TheVariants as L;
 
 use aen_base::NoMem;
+use expression_ways::{expressions, operators, path_ways};
 use rust_ast::source::{Expr, ExprNode};
 use source_values::taking::expressions::{
     take_borrowed, take_casts, take_expr, take_exprs, take_ident, take_maybe_expr, take_operations,
@@ -19,7 +20,6 @@ use source_ways::front_list::FrontList;
 use source_ways::says::ident;
 use source_ways::spanned::Spanned;
 use source_ways::spans::{join, span_of};
-use source_ways::{expressions, operators, path_ways};
 use std::alloc::Global;
 
 /// `LeadingExpression` of: Return Operand. The only error is want of memory.

@@ -6,13 +6,13 @@ ghost use Rattle.source_values.specs.Stacked.{CanBuild, IsBuilt};
 ghost use Rattle.source_grammar.specs.declared.part.Context.TheVariants as At;
 
 use aen_base::NoMem;
+use expression_ways::path_ways;
 use source_values::taking::expressions::{take_expr, take_exprs, take_initials};
 use source_values::taking::items::take_nothing;
 use source_values::taking::paths::{take_after, take_calling, take_further, take_in_mem};
 use source_values::taking::types::take_writtens;
 use source_values::taking::{take_mark, take_token};
 use source_values::{Stack, Value};
-use source_ways::path_ways;
 use source_ways::paths::InMem;
 use source_ways::spanned::Spanned;
 use source_ways::spans::{join, span_of};

@@ -2,10 +2,3 @@ pub mod Classes
 pub mod Productions
 pub mod Spelled
 pub mod Lexemes
-pub mod Follow
-pub mod Shortest
-pub mod Apart
-pub mod Lighter
-pub mod PartsFit
-pub mod Ends
-pub mod Fit

@@ -5,12 +5,12 @@ ghost use Rattle.source_grammar.specs.declared.part.Part.TheVariants as N;
 ghost use Rattle.source_values.specs.Stacked.{CanBuild, IsBuilt};
 
 use aen_base::NoMem;
+use item_ways::items;
 use source_values::taking::items::take_named_fields;
 use source_values::taking::types::{take_written, take_writtens};
 use source_values::taking::{take_mark, take_token};
 use source_values::{Stack, Value};
 use source_ways::front_list::FrontList;
-use source_ways::items;
 use source_ways::spanned::Spanned;
 use source_ways::spans::{join, span_of};
 use std::alloc::Global;

@@ -5,6 +5,7 @@ ghost use Rattle.source_grammar.specs.declared.part.Part.TheVariants as N;
 ghost use Rattle.source_values.specs.Stacked.{CanBuild, IsBuilt};
 
 use aen_base::{Boxed, NoMem};
+use item_ways::items;
 use source_values::taking::blocks::take_block;
 use source_values::taking::items::{
     take_fields, take_generics, take_idents, take_item, take_items, take_nothing, take_params,
@@ -14,7 +15,6 @@ use source_values::taking::types::{take_maybe_written, take_written};
 use source_values::taking::{take_mark, take_token};
 use source_values::{Stack, Value};
 use source_ways::front_list::FrontList;
-use source_ways::items;
 use source_ways::spanned::Spanned;
 use source_ways::spans::{join, span_of};
 use std::alloc::Global;

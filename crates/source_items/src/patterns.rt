@@ -5,6 +5,7 @@ ghost use Rattle.source_grammar.specs.declared.part.Part.TheVariants as N;
 ghost use Rattle.source_values.specs.Stacked.{CanBuild, IsBuilt};
 
 use aen_base::NoMem;
+use item_ways::patterns;
 use rust_ast::source_patterns::{Pat, PatNode};
 use source_values::taking::patterns::{
     take_after_mem, take_after_name, take_field_pats, take_given, take_maybe_pat, take_pat,
@@ -15,7 +16,6 @@ use source_values::taking::{take_mark, take_token};
 use source_values::{Stack, Value};
 use source_ways::constructors::{AfterMem, AfterName, Given};
 use source_ways::front_list::FrontList;
-use source_ways::patterns;
 use source_ways::spanned::Spanned;
 use source_ways::spans::{join, span_of};
 use std::alloc::Global;

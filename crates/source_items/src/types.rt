@@ -5,6 +5,7 @@ ghost use Rattle.source_grammar.specs.declared.part.Part.TheVariants as N;
 ghost use Rattle.source_values.specs.Stacked.{CanBuild, IsBuilt};
 
 use aen_base::NoMem;
+use item_ways::types;
 use rust_ast::source_types::{Lifetime, LifetimeNode, Written, WrittenNode};
 use source_values::taking::types::{take_lifetime, take_truth, take_written, take_writtens};
 use source_values::taking::{take_mark, take_token};
@@ -13,7 +14,6 @@ use source_ways::front_list::FrontList;
 use source_ways::says::lifetime;
 use source_ways::spanned::Spanned;
 use source_ways::spans::{join, span_of};
-use source_ways::types;
 use std::alloc::Global;
 
 /// `Type` of: IntWord.

@@ -1,21 +1,14 @@
-//! How a source's tokens are read as a program (docs/LANGUAGE.md, "Grammar").
+//! What a source's tokens are read as (docs/LANGUAGE.md, "Grammar"): the definitions, the values of parts
+//! that are no trees, and what all ways of reading need.
 #![tactic(auto)]
 
-mod assertion;
-pub mod blocks;
 pub mod clauses;
 pub mod constructors;
-pub mod expressions;
 pub mod front_list;
 pub mod generics;
-pub mod items;
 pub mod operations;
-pub mod operators;
-mod path_nodes;
-pub mod path_ways;
+pub mod path_nodes;
 pub mod paths;
-pub mod patterns;
 pub mod says;
 pub mod spanned;
 pub mod spans;
-pub mod types;

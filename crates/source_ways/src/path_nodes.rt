@@ -13,7 +13,7 @@ use rust_ast::source_types::{Path, PathNode, Turbo, TurboNode, Written};
 use source_grammar::Class;
 
 /// No type arguments.
-pub(crate) fn no_turbo() -> Turbo
+pub fn no_turbo() -> Turbo
     ensures { result ≡ tree.no_turbo }
 {
     Turbo {
@@ -22,7 +22,7 @@ pub(crate) fn no_turbo() -> Turbo
 }
 
 /// These type arguments.
-pub(crate) fn turbo(types: FrontList<Written>) -> Turbo
+pub fn turbo(types: FrontList<Written>) -> Turbo
     ensures { result ≡ tree.turbo (tree.writtens types) }
 {
     Turbo {
@@ -31,7 +31,7 @@ pub(crate) fn turbo(types: FrontList<Written>) -> Turbo
 }
 
 /// A path of one name.
-pub(crate) fn one(name: Ident) -> Path
+pub fn one(name: Ident) -> Path
     ensures { result ≡ tree.one name }
 {
     Path {
@@ -40,7 +40,7 @@ pub(crate) fn one(name: Ident) -> Path
 }
 
 /// A path of two names, with the first's type arguments.
-pub(crate) fn two(name: Ident, arguments: Turbo, second: Ident) -> Path
+pub fn two(name: Ident, arguments: Turbo, second: Ident) -> Path
     ensures { result ≡ tree.two name arguments second }
 {
     Path {
@@ -49,7 +49,7 @@ pub(crate) fn two(name: Ident, arguments: Turbo, second: Ident) -> Path
 }
 
 /// The path `Box::new`, from where `Box` stands to where `new` stands.
-pub(crate) fn box_new(first: Span, last: Span) -> Path
+pub fn box_new(first: Span, last: Span) -> Path
     ensures { result ≡ tree.box_new (from_to first.lo last.hi) }
 {
     Path {
@@ -62,7 +62,7 @@ pub(crate) fn box_new(first: Span, last: Span) -> Path
 
 /// `mem::swap` or `mem::replace`: the last word, the span of the path and of `mem`, and whether
 /// `std::` stands before.
-pub(crate) fn built_in(word: Class, path: Span, mem: Span, after_std: bool) -> Path
+pub fn built_in(word: Class, path: Span, mem: Span, after_std: bool) -> Path
     ensures { result ≡ spec.built_in word path mem after_std }
 {
     let node = if is_class(word, Class::Swap) {
