@@ -80,6 +80,20 @@ pub first_at : {A : Type 0} (test : A → Bool) (i : ℕ) (ys : List A) → firs
 first_at test i [] h = absurd cc
 first_at test i (y ∷ ys) h = at_test test y ys i (test y) refl (λ j e. first_at test j ys e) h
 
+abbrev pub is_some : Option ℕ → Bool
+is_some None = false
+is_some (Some k) = true
+
+some_more : (o : Option ℕ) → is_some o ≡ is_some (one_more o)
+some_more None = refl
+some_more (Some k) = refl
+
+-- one is empty where an empty one has a place
+pub has_place : {A : Type 0} (ps : List (List A)) → has_empty ps ≡ is_some (first_place is_empty ps)
+has_place [] = refl
+has_place ([] ∷ ps) = refl
+has_place ((x ∷ p) ∷ ps) = has_place ps ∙ some_more (first_place is_empty ps)
+
 pub false_of : (b : Bool) → (b ≡ true → ⊥) → b ≡ false
 false_of true f = absurd (f refl)
 false_of false f = refl

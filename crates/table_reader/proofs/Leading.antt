@@ -28,11 +28,6 @@ symbols_coming [] rest = refl
 symbols_coming {T} {N} (S.Token t ∷ p) rest = ap (λ (s : List (Symbol T N)). S.Token t ∷ s) (symbols_coming p rest)
 symbols_coming {T} {N} (S.Part n ∷ p) rest = ap (λ (s : List (Symbol T N)). S.Part n ∷ s) (symbols_coming p rest)
 
--- what is left of a lexeme weighs, more than nothing
-abbrev pub weight_left : {L : Type 0} → (L → ℕ) → Option L → ℕ
-weight_left weight None = 0
-weight_left weight (Some l) = suc (weight l)
-
 pub plain_at : {T N L : Type 0} (carrier : N → Type 0) (n : N) (m : Made T N L carrier n) (i : ℕ) (ms : List (Made T N L carrier n)) → IsAt m i ms → IsAt m.symbols i (plain carrier n ms)
 plain_at carrier n m i [] h = absurd h
 plain_at {T} {N} {L} carrier n m zero (q ∷ ms) h = ap (λ (w : Made T N L carrier n). w.symbols) h
@@ -51,7 +46,7 @@ module _ {T N L V : Type 0} (takes : T → L → Take L) (carrier : N → Type 0
   abbrev Leads : List (Coming T N) → Values → List L → Values → Type 0
   Leads s values ls last = M.Leads takes carrier made held s values ls last
 
-  makes_at : (n : N) (m : Made T N L carrier n) (i : ℕ) (ms : List (Made T N L carrier n)) → IsAt m i ms → (vs : Parts T N L carrier m.symbols) (below : Values) →
+  pub makes_at : (n : N) (m : Made T N L carrier n) (i : ℕ) (ms : List (Made T N L carrier n)) → IsAt m i ms → (vs : Parts T N L carrier m.symbols) (below : Values) →
       MakesBy n ms i (put m.symbols vs below) (held n (m.make vs)) below
   makes_at n m i [] h vs below = absurd h
   makes_at n m zero (q ∷ ms) h vs below =
@@ -160,15 +155,8 @@ module _ {T N L V : Type 0} (takes : T → L → Take L) (carrier : N → Type 0
               let f = begun_some n j s p (symbols rest) l ls at (derived n (s ∷ p) j rest values (l ∷ ls) last h) in
               absurd cc
 
-          must_by : empty_place n ≡ None → (p : List (Symbol T N)) (j : ℕ) → IsAt p j (productions n) → Leads (map coming p ++ C.Over n j ∷ rest) values (l ∷ ls) last → ⊥
-          must_by e [] j at h = let f = empty_is n j at in cc
-          must_by e (s ∷ p) j at h = let f = begun_some n j s p (symbols rest) l ls at (derived n (s ∷ p) j rest values (l ∷ ls) last h) in cc
-
           pub part_skips : (i : ℕ) → empty_place n ≡ Some i → Leads (C.Part n ∷ rest) values (l ∷ ls) last → Leads (C.Over n i ∷ rest) values (l ∷ ls) last
           part_skips i e (M.part m j at h) = skips_by i e m.symbols j (made_at n m j at) h
-
-          pub part_must : empty_place n ≡ None → Leads (C.Part n ∷ rest) values (l ∷ ls) last → ⊥
-          part_must e (M.part m j at h) = must_by e m.symbols j (made_at n m j at) h
 
         -- at the end
         ends_by : (i : ℕ) → empty_place n ≡ Some i → (p : List (Symbol T N)) (j : ℕ) → IsAt p j (productions n) → Leads (map coming p ++ C.Over n j ∷ rest) values [] last →
@@ -183,12 +171,3 @@ module _ {T N L V : Type 0} (takes : T → L → Take L) (carrier : N → Type 0
 
         pub part_ends : (i : ℕ) → empty_place n ≡ Some i → Leads (C.Part n ∷ rest) values [] last → Leads (C.Over n i ∷ rest) values [] last
         part_ends i e (M.part m j at h) = ends_by i e m.symbols j (made_at n m j at) h
-
-        end_by : empty_place n ≡ None → (p : List (Symbol T N)) (j : ℕ) → IsAt p j (productions n) → Leads (map coming p ++ C.Over n j ∷ rest) values [] last → ⊥
-        end_by e [] j at h = let f = empty_is n j at in cc
-        end_by e (s ∷ p) j at h =
-            Theorem.no_end takes productions rank weight fits rank (productions n) (Heads.firm_part takes productions rank weight fits n) (s ∷ p) (symbols rest)
-            (one_of_at (s ∷ p) j (productions n) at) tt (derived n (s ∷ p) j rest values [] last h)
-
-        pub end_must : empty_place n ≡ None → Leads (C.Part n ∷ rest) values [] last → ⊥
-        end_must e (M.part m j at h) = end_by e m.symbols j (made_at n m j at) h

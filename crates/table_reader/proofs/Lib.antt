@@ -6,6 +6,8 @@ pub mod Completeness
 pub mod Theorem
 pub mod Beginnings
 pub mod Stepping
+pub mod Ready
+pub mod Ending
 pub mod Pieces
 pub mod Readings
 pub mod Unique

@@ -56,12 +56,12 @@ nothing_left : {A : Type 0} (xs ys : List A) → xs ++ ys ≡ [] → xs ≡ []
 nothing_left [] ys h = refl
 nothing_left (x ∷ xs) ys h = absurd cc
 
-record Found (o : Option (List ℕ)) (below ways : List ℕ) : Type 0 where
+pub record Found (o : Option (List ℕ)) (below ways : List ℕ) : Type 0 where
   pub way : List ℕ
   pub is : o ≡ Some way
   pub are : ways ≡ way ++ below
 
-finds_way : (o : Option (List ℕ)) (below ways : List ℕ) → Finds o true below ways → Found o below ways
+pub finds_way : (o : Option (List ℕ)) (below ways : List ℕ) → Finds o true below ways → Found o below ways
 finds_way None below ways h = absurd h
 finds_way (Some w) below ways h = record { way = w; is = refl; are = h }
 

@@ -1,12 +1,8 @@
--- Turns and steps on a stack whose newest symbol is its last.
+-- A stack whose newest item is its last, and places that are further on.
 use Rattle.std.proofs.Common.{◌≡◌, refl, ap, ◌∙◌, ℕ, suc, ◌+◌, arith, List, [], ◌∷◌, ◌++◌, reverse, Option, Some, None}
 use Rattle.std.specs.Option.{option_map}
 use Rattle.std.proofs.lemmas.List.{reverse-append}
-use Rattle.table_reader.specs.declared.symbol.Symbol.{Symbol}
-use Rattle.table_reader.specs.declared.take.Take.{Take}
-use Rattle.table_reader.specs.declared.take.Take.TheVariants as K
-use Rattle.table_reader.specs.Steps.{turned, one_more}
-use Rattle.table_reader.specs.Stacks.{Turns}
+use Rattle.table_reader.specs.Steps.{one_more}
 
 pub popped : {A : Type 0} (old new : List A) (last : A) → old ≡ new ++ last ∷ [] → reverse old ≡ last ∷ reverse new
 popped old new last e = ap reverse e ∙ reverse-append new (last ∷ [])
@@ -22,9 +18,3 @@ further_none (Some k) = let e : k ≡ 0 + k = omega arith in ap Some e
 pub further_one : (n : ℕ) (o : Option ℕ) → further n (one_more o) ≡ further (n + 1) o
 further_one n None = refl
 further_one n (Some k) = let e : n + suc k ≡ n + 1 + k = omega arith in ap Some e
-
--- by a token
-pub turns_token : {T N L : Type 0} (k : Take L) (rest : List (Symbol T N)) → Turns (turned k rest) k rest
-turns_token K.No rest = tt
-turns_token K.Whole rest = refl
-turns_token (K.Front half r) rest = (refl, refl)

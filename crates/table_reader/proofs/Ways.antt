@@ -13,7 +13,7 @@ use Rattle.table_reader.specs.Machine.{IsAt, Finds, first_place, through}
 use Rattle.table_reader.proofs.Heads as Heads
 use Rattle.table_reader.proofs.Heads.{left_of, right_of}
 use Rattle.table_reader.proofs.Beginnings as B
-use Rattle.table_reader.proofs.Beginnings.{append_nil, first_here, first_later}
+use Rattle.table_reader.proofs.Beginnings.{append_nil, first_here, first_later, is_some}
 
 or_assoc : (a b c : Bool) → a || (b || c) ≡ (a || b) || c
 or_assoc true b c = refl
@@ -22,10 +22,6 @@ or_assoc false b c = refl
 any_append : {A : Type 0} (test : A → Bool) (xs ys : List A) → list_any test (xs ++ ys) ≡ list_any test xs || list_any test ys
 any_append test [] ys = refl
 any_append test (x ∷ xs) ys = ap (λ (b : Bool). test x || b) (any_append test xs ys) ∙ or_assoc (test x) (list_any test xs) (list_any test ys)
-
-abbrev is_some : Option ℕ → Bool
-is_some None = false
-is_some (Some k) = true
 
 some_or : (b : Bool) (o : Option ℕ) → b || is_some o ≡ is_some (if b then Some 0 else one_more o)
 some_or true o = refl
@@ -39,10 +35,6 @@ through_none i (Some w) other h = absurd cc
 token_none : (b : Bool) (w : List ℕ) → (if b then Some w else None) ≡ None → b || false ≡ false
 token_none true w h = absurd cc
 token_none false w h = refl
-
-pub finds_some : (o : Option (List ℕ)) (new : List ℕ) → Finds o true [] new → o ≡ Some new
-finds_some None new h = absurd h
-finds_some (Some w) new h = ap Some (sym (append_nil w)) ∙ ap Some (sym h)
 
 pub finds_nothing : (o : Option (List ℕ)) (old new : List ℕ) → Finds o false old new → o ≡ None
 finds_nothing None old new h = refl

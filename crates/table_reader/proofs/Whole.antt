@@ -1,6 +1,7 @@
 -- Lexemes that are derived from a part are read as one value, to which they lead.
-use Rattle.std.proofs.Common.{◌≡◌, refl, sym, ap, ◌∙◌, subst, ℕ, zero, suc, ◌<◌, ◌≤◌, ◌+◌, arith, inl, inr, ◌⊎◌, List, [], ◌∷◌, ◌++◌, take, drop, drop-cons, length, get_or, Option, Some, None, MatchOption}
-use Rattle.std.proofs.lemmas.List.{drop_all}
+use Rattle.std.proofs.Common.{◌≡◌, refl, sym, ap, ◌∙◌, subst, ℕ, zero, suc, ◌<◌, ◌≤◌, ◌+◌, arith, inl, inr, ◌⊎◌, List, [], ◌∷◌, ◌++◌, take, drop, drop-cons, length, get_or, reverse, Option, Some, None, MatchOption, Ok, Err, MatchResult}
+use Rattle.std.specs.Prelude.{⊤}
+use Rattle.std.specs.declared.result.Result.{Result}
 use Rattle.table_reader.specs.declared.coming.Coming.{Coming}
 use Rattle.table_reader.specs.declared.coming.Coming.TheVariants as C
 use Rattle.table_reader.specs.declared.item.Item.{Item}
@@ -14,6 +15,9 @@ use Rattle.table_reader.specs.Reading as R
 use Rattle.table_reader.specs.Reading.{Made, Parts, plain, IsReadAs, IsNotRead}
 use Rattle.table_reader.specs.Machine as M
 use Rattle.table_reader.specs.Machine.{IsReached, symbols}
+use Rattle.table_reader.specs.Steps as Steps
+use Rattle.table_reader.proofs.Stepping.{further, further_none, further_one}
+use Rattle.table_reader.proofs.Theorem.{exact}
 use Rattle.table_reader.proofs.Readings as Readings
 use Rattle.table_reader.proofs.Unique.{unique}
 use Rattle.table_reader.proofs.Leading.{part_leads}
@@ -59,11 +63,6 @@ module _ {T N L V : Type 0} (takes : T → L → Take L) (carrier : N → Type 0
   pub fault_not_read : (n : N) (ls : List L) (k : ℕ) → D.IsFault takes productions (S.Part n ∷ []) ls k → IsNotRead takes carrier made n ls
   fault_not_read n ls k f v r = fault_underived takes productions (S.Part n ∷ []) ls k f (read_derived n ls v r)
 
-  pub told_not_read : (n : N) (ls : List L) (o : Option ℕ) (k : ℕ) → o ≡ Some k →
-      MatchOption o (D.Derives takes productions (S.Part n ∷ []) ls) (λ k. D.IsFault takes productions (S.Part n ∷ []) ls k) → IsNotRead takes carrier made n ls
-  told_not_read n ls None k e h = absurd cc
-  told_not_read n ls (Some j) k e h = fault_not_read n ls j h
-
   pub record Reading (n : N) (ls : List L) : Type 0 where
     pub value : carrier n
     pub reads : R.Reads takes carrier made n ls [] value
@@ -98,30 +97,66 @@ module _ {T N L V : Type 0} (takes : T → L → Take L) (carrier : N → Type 0
       only = λ other r. one_value n ls other value r (reading n ls d).reads;
     }
 
-    module _ (to : ToCome) (values : Values) (i : ℕ) (leads : (last : Values) → Leads (C.Part n ∷ []) [] ls last → Leads to values (drop i ls) last) where
-      pub ends_in : length ls ≤ i → Leads to values [] last
-      ends_in h = subst (λ (us : List L). Leads to values us last) (drop_all i ls h) (leads last leads_all)
+  abbrev fault_from : List (Symbol T N) → List L → Option ℕ
+  fault_from s us = Steps.fault_from takes productions rank weight s us
 
-      pub can_finish : length ls ≤ i → M.CanFinish takes carrier made held to values
-      can_finish h = record { value = held n value; leads = ends_in h }
+  -- after so many lexemes: what the part led to from all of them, what is to come leads to from those that are left
+  pub record Been (n : N) (ls : List L) (i : ℕ) (to : ToCome) (values : Values) : Type 0 where
+    pub reached : IsReached productions (symbols to)
+    pub ready : M.IsReady carrier made held to values
+    pub leads : (last : Values) → Leads (C.Part n ∷ []) [] ls last → Leads to values (drop i ls) last
+    pub faults : fault_from (S.Part n ∷ []) ls ≡ further i (fault_from (symbols to) (drop i ls))
 
-      module _ (l : L) (h : i < length ls) (is : l ≡ get_or ls i l) where
-        next : drop i ls ≡ l ∷ drop (i + 1) ls
-        next =
-            let cut : drop i ls ≡ get_or ls i l ∷ drop (suc i) ls = drop-cons ls i l h in
-            let one : suc i ≡ i + 1 = omega arith in
-            cut ∙ (ap (λ (x : L). x ∷ drop (suc i) ls) (sym is) ∙ ap (λ (j : ℕ). l ∷ drop j ls) one)
+  start_ready : (n : N) → M.IsReady carrier made held (C.Part n ∷ []) []
+  start_ready n = λ v. (held n v, refl)
 
-        pub can_take : M.CanTake takes carrier made held to values l
-        can_take = record { others = drop (i + 1) ls; last = last; leads = subst (λ (us : List L). Leads to values us last) next (leads last leads_all) }
+  been_alone : (n : N) (ls : List L) → Been n ls 0 (C.Part n ∷ []) []
+  been_alone n ls = record {
+    reached = M.start n;
+    ready = start_ready n;
+    leads = λ last h. h;
+    faults = further_none (fault_from (S.Part n ∷ []) ls);
+  }
 
-        pub leads_next : (new : ToCome) (more : Values) → M.Follows takes carrier made held productions to values l new more [] → (last : Values) → Leads (C.Part n ∷ []) [] ls last →
-            Leads new more (drop (i + 1) ls) last
-        leads_next new more f last g = f.leads (drop (i + 1) ls) last (subst (λ (us : List L). Leads to values us last) next (leads last g))
+  pub been_start : (n : N) (ls : List L) (old new : ToCome) (values : Values) → old ≡ [] → new ≡ old ++ C.Part n ∷ [] → values ≡ [] → Been n ls 0 (reverse new) (reverse values)
+  been_start n ls old new values e f g =
+      subst (λ (s : ToCome). Been n ls 0 (reverse s) (reverse values)) (sym (f ∙ ap (λ (s : ToCome). s ++ C.Part n ∷ []) e))
+      (subst (λ (vs : Values). Been n ls 0 (C.Part n ∷ []) (reverse vs)) (sym g) (been_alone n ls))
 
-  pub reached_start : (n : N) (s : ToCome) → s ≡ C.Part n ∷ [] → IsReached productions (symbols s)
-  reached_start n s e = subst (λ (r : ToCome). IsReached productions (symbols r)) (sym e) (M.start n)
+  module _ (n : N) (ls : List L) (i : ℕ) (to : ToCome) (values : Values) (b : Been n ls i to values) where
+    module _ (l : L) (h : i < length ls) (is : l ≡ get_or ls i l) where
+      next : drop i ls ≡ l ∷ drop (i + 1) ls
+      next =
+          let cut : drop i ls ≡ get_or ls i l ∷ drop (suc i) ls = drop-cons ls i l h in
+          let one : suc i ≡ i + 1 = omega arith in
+          cut ∙ (ap (λ (x : L). x ∷ drop (suc i) ls) (sym is) ∙ ap (λ (j : ℕ). l ∷ drop j ls) one)
 
-  pub leads_start : (n : N) (ls : List L) (s : ToCome) (values : Values) → s ≡ C.Part n ∷ [] → values ≡ [] → (last : Values) → Leads (C.Part n ∷ []) [] ls last → Leads s values ls last
-  leads_start n ls s values e f last h =
-      subst (λ (r : ToCome). Leads r values ls last) (sym e) (subst (λ (vs : Values). Leads (C.Part n ∷ []) vs ls last) (sym f) h)
+      pub been_next : (new : ToCome) (more : Values) → M.Moves takes carrier made held productions rank weight to values l new more [] → Been n ls (i + 1) new more
+      been_next new more m = record {
+        reached = m.follows.reached;
+        ready = m.follows.ready b.ready;
+        leads = λ last g. m.follows.leads (drop (i + 1) ls) last (subst (λ (us : List L). Leads to values us last) next (b.leads last g));
+        faults = b.faults ∙ (ap (λ (us : List L). further i (fault_from (symbols to) us)) next
+            ∙ (ap (λ (o : Option (List (Symbol T N))). further i (Steps.fault_after takes productions rank weight o (λ s. fault_from s (drop (i + 1) ls)))) m.steps
+            ∙ further_one i (fault_from (symbols new) (drop (i + 1) ls))));
+      }
+
+  -- what the steps tell
+  abbrev IsFault : N → List L → ℕ → Type 0
+  IsFault n ls k = D.IsFault takes productions (S.Part n ∷ []) ls k
+
+  told : (n : N) (ls : List L) (o : Option ℕ) → fault_from (S.Part n ∷ []) ls ≡ o → MatchOption o (D.Derives takes productions (S.Part n ∷ []) ls) (IsFault n ls)
+  told n ls o e = subst (λ (p : Option ℕ). MatchOption p (D.Derives takes productions (S.Part n ∷ []) ls) (IsFault n ls)) e (exact takes productions rank weight fits n ls)
+
+  abbrev Told : N → List L → Result V ℕ → Type 0
+  Told n ls r = MatchResult r (λ it. (fault_from (S.Part n ∷ []) ls ≡ None) × M.Ends takes carrier made held (C.Part n ∷ []) [] ls it) (λ place. fault_from (S.Part n ∷ []) ls ≡ Some place)
+
+  pub told_exact : (n : N) (ls : List L) (r : Result V ℕ) → Told n ls r → MatchResult r (λ it. IsReadAs takes carrier made held n ls it) (λ place. IsFault n ls place)
+  told_exact n ls (Ok it) h =
+      let d = told n ls None h.0 in
+      is_read n ls d it (h.1 (held n (value n ls d)) (leads_all n ls d))
+  told_exact n ls (Err place) h = told n ls (Some place) h
+
+  pub told_not_read : (n : N) (ls : List L) (r : Result V ℕ) → Told n ls r → MatchResult r (λ it. ⊤) (λ place. IsNotRead takes carrier made n ls)
+  told_not_read n ls (Ok it) h = tt
+  told_not_read n ls (Err place) h = fault_not_read n ls place (told n ls (Some place) h)

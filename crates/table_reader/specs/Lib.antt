@@ -1,6 +1,5 @@
 pub mod Derivations
 pub mod Steps
-pub mod Stacks
 pub mod Conditions
 pub mod Reading
 pub mod Making

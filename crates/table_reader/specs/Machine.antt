@@ -1,5 +1,5 @@
 -- How lexemes are read on two stacks, the newest first: of what is to come, and of values.
-use Rattle.std.specs.Prelude.{◌≡◌, ℕ, zero, suc, Bool, true, false, if◌then◌else◌, List, [], ◌∷◌, ◌++◌, map, Option, Some, None}
+use Rattle.std.specs.Prelude.{◌≡◌, ℕ, zero, suc, ◌<◌, Bool, true, false, if◌then◌else◌, List, [], ◌∷◌, ◌++◌, map, Option, Some, None}
 use Rattle.std.specs.List.{list_any}
 use Rattle.table_reader.specs.declared.coming.Coming.{Coming}
 use Rattle.table_reader.specs.declared.coming.Coming.TheVariants as C
@@ -9,9 +9,11 @@ use Rattle.table_reader.specs.declared.symbol.Symbol.{Symbol}
 use Rattle.table_reader.specs.declared.symbol.Symbol.TheVariants as S
 use Rattle.table_reader.specs.declared.take.Take.{Take}
 use Rattle.table_reader.specs.declared.take.Take.TheVariants as K
+use Rattle.table_reader.specs.declared.turned.Turned.{Turned}
+use Rattle.table_reader.specs.declared.turned.Turned.TheVariants as W
 use Rattle.table_reader.specs.Derivations.{IsOneOf}
 use Rattle.table_reader.specs.Conditions.{accepts, heads}
-use Rattle.table_reader.specs.Steps.{one_more}
+use Rattle.table_reader.specs.Steps.{one_more, refused, chosen, step}
 use Rattle.table_reader.specs.Reading.{Made}
 use Rattle.table_reader.specs.Building.{MakesBy}
 
@@ -94,6 +96,28 @@ pub record HasFirst {T N : Type 0} (productions : N → List (List (Symbol T N))
 abbrev pub empty_place : {T N : Type 0} → (N → List (List (Symbol T N))) → N → Option ℕ
 empty_place productions n = first_place is_empty (productions n)
 
+-- a part is left out by its empty production, if it has one
+abbrev pub Skips : Option ℕ → Bool → (ℕ → Type 0) → Type 0
+Skips None true By = ⊥
+Skips None false By = Unit {0}
+Skips (Some i) true By = By i
+Skips (Some i) false By = ⊥
+
+-- a token takes a lexeme or its front, which is the newest value then, or refuses it
+abbrev pub TakesToken : {L V : Type 0} → Take L → L → List (Item L V) → Turned L → List (Item L V) → Type 0
+TakesToken K.No l values turned new = turned ≡ W.Refused
+TakesToken K.Whole l values turned new = (turned ≡ W.Taken) × (new ≡ I.Token l ∷ values)
+TakesToken (K.Front front rest) l values turned new = (turned ≡ W.Left rest) × (new ≡ I.Token front ∷ values)
+
+module _ {T N L V : Type 0} (carrier : N → Type 0) (made : (n : N) → List (Made T N L carrier n)) (held : (n : N) → carrier n → V) where
+  -- with these values, whatever is read of what is to come, each production that is over has the values of its
+  -- symbols on top of the stack, and in the end one value stands alone
+  abbrev pub IsReady : List (Coming T N) → List (Item L V) → Type 0
+  IsReady [] values = (value : V) × (values ≡ I.Part value ∷ [])
+  IsReady (C.Token t ∷ rest) values = (l : L) → IsReady rest (I.Token l ∷ values)
+  IsReady (C.Part n ∷ rest) values = (v : carrier n) → IsReady rest (I.Part (held n v) ∷ values)
+  IsReady (C.Over n i ∷ rest) values = (value : V) × ((below : List (Item L V)) × (MakesBy carrier held n (made n) i values value below × IsReady rest (I.Part value ∷ below)))
+
 module _ {T N L V : Type 0} (takes : T → L → Take L) (carrier : N → Type 0) (made : (n : N) → List (Made T N L carrier n)) (held : (n : N) → carrier n → V) where
   -- with this to come and these values, lexemes lead to these values in the end
   pub data Leads : List (Coming T N) → List (Item L V) → List L → List (Item L V) → Type 0 where
@@ -107,29 +131,40 @@ module _ {T N L V : Type 0} (takes : T → L → Take L) (carrier : N → Type 0
     made_of : {n : N} {i : ℕ} {rest : List (Coming T N)} {values last : List (Item L V)} {ls : List L} (value : V) (below : List (Item L V)) →
         MakesBy carrier held n (made n) i values value below → Leads rest (I.Part value ∷ below) ls last → Leads (C.Over n i ∷ rest) values ls last
 
-  -- this lexeme and others lead on
-  pub record CanTake (to_come : List (Coming T N)) (values : List (Item L V)) (l : L) : Type 0 where
-    pub others : List L
-    pub last : List (Item L V)
-    pub leads : Leads to_come values (l ∷ others) last
+  -- where lexemes lead to one value in the end, this is the value
+  abbrev pub Ends : List (Coming T N) → List (Item L V) → List L → V → Type 0
+  Ends to_come values ls it = (value : V) → Leads to_come values ls (I.Part value ∷ []) → it ≡ value
 
-  -- with these values, nothing more leads to the value of a part
-  pub record CanFinish (to_come : List (Coming T N)) (values : List (Item L V)) : Type 0 where
-    pub value : V
-    pub leads : Leads to_come values [] (I.Part value ∷ [])
-
-  -- what is to come was reached, and where a lexeme and others led, what is left of it and the others lead from here
+  -- what is to come was reached, what was ready is, and where a lexeme and others led, what is left of it and the
+  -- others lead from here
   pub record Follows (productions : N → List (List (Symbol T N))) (from : List (Coming T N)) (values : List (Item L V)) (l : L) (to : List (Coming T N)) (new : List (Item L V)) (left : List L) : Type 0 where
     pub reached : IsReached productions (symbols to)
+    pub ready : IsReady carrier made held from values → IsReady carrier made held to new
     pub leads : (ls : List L) (last : List (Item L V)) → Leads from values (l ∷ ls) last → Leads to new (left ++ ls) last
 
--- what is left of a lexeme, if anything
-abbrev pub left_over : {L : Type 0} → Option L → List L
-left_over None = []
-left_over (Some l) = l ∷ []
+  module _ (productions : N → List (List (Symbol T N))) (rank : ℕ) (weight : L → ℕ) where
+    -- the step from these symbols by a lexeme is the one that goes on with what is left of it
+    abbrev pub GoesOn : List (Symbol T N) → L → List (Symbol T N) → List L → Type 0
+    GoesOn from l to [] = step takes productions rank weight from l ≡ Some to
+    GoesOn from l to (k ∷ ks) = step takes productions rank weight from l ≡ step takes productions rank weight to k
 
--- a token takes a lexeme or its front, which is the newest value then
-abbrev pub TakesToken : {L V : Type 0} → Take L → L → List (Item L V) → Option L → List (Item L V) → Type 0
-TakesToken K.No l values left new = ⊥
-TakesToken K.Whole l values left new = (left ≡ None) × (new ≡ I.Token l ∷ values)
-TakesToken (K.Front front rest) l values left new = (left ≡ Some rest) × (new ≡ I.Token front ∷ values)
+    -- the same on both stacks
+    pub record Moves (from : List (Coming T N)) (values : List (Item L V)) (l : L) (to : List (Coming T N)) (new : List (Item L V)) (left : List L) : Type 0 where
+      pub follows : Follows productions from values l to new left
+      pub steps : GoesOn (symbols from) l (symbols to) left
+
+    -- a lexeme was taken, or can't stand here
+    abbrev pub Takes : List (Coming T N) → List (Item L V) → L → Bool → List (Coming T N) → List (Item L V) → Type 0
+    Takes from values l true to new = Moves from values l to new []
+    Takes from values l false to new = step takes productions rank weight (symbols from) l ≡ None
+
+    -- the same, or its front was taken, and what is left is lighter
+    abbrev pub Turns : List (Coming T N) → List (Item L V) → L → Turned L → List (Coming T N) → List (Item L V) → Type 0
+    Turns from values l W.Refused to new = step takes productions rank weight (symbols from) l ≡ None
+    Turns from values l W.Taken to new = Moves from values l to new []
+    Turns from values l (W.Left r) to new = Moves from values l to new (r ∷ []) × (weight r < weight l)
+
+    -- a part was opened down to a token; or no production of it goes on with the lexeme, and all is as before
+    abbrev pub Enters : N → L → Option T → List (Coming T N) → List (Coming T N) → Type 0
+    Enters n l None old new = ((begun takes productions rank n l ≡ None) × (chosen takes productions rank weight rank (productions n) l ≡ refused)) × (new ≡ old)
+    Enters n l (Some t) old new = (values : List (Item L V)) → Moves (C.Part n ∷ old) values l (C.Token t ∷ new) values (l ∷ [])

@@ -7,14 +7,13 @@ mod coming;
 mod grammar;
 mod item;
 mod reader;
-mod recognizer;
 mod symbol;
 mod take;
+mod turned;
 
 pub use builds::Builds;
 pub use grammar::Grammar;
 pub use item::Item;
 pub use reader::read;
-pub use recognizer::grammar_fault;
 pub use symbol::{Production, Symbol};
 pub use take::Take;

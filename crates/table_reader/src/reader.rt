@@ -1,31 +1,32 @@
 //! Reads lexemes as a value, on two stacks: of what is to come, and of the values of symbols.
 
-ghost use Rattle.std.specs.Prelude.{◌≡◌, [], ◌∷◌, ◌++◌, ◌<◌, length, map, reverse, IfOk, OnOk, MatchOption, MatchResult, ⊤, List, true, Some, None};
+ghost use Rattle.std.specs.Prelude.{◌≡◌, [], ◌∷◌, ◌++◌, ◌<◌, length, map, reverse, IfOk, OnOk, MatchOption, MatchResult, ⊤, List, true, false, Some, None};
 ghost use Rattle.table_reader.specs.declared.coming.Coming.TheVariants as C;
 ghost use Rattle.table_reader.specs.declared.item.Item.{Item};
 ghost use Rattle.table_reader.specs.declared.item.Item.TheVariants as I;
 ghost use Rattle.table_reader.specs.declared.symbol.Symbol.{Symbol};
 ghost use Rattle.table_reader.specs.declared.symbol.Symbol.TheVariants as S;
 ghost use Rattle.table_reader.specs.Building.{CanBuild, MakesBy};
-ghost use Rattle.table_reader.specs.Conditions.{accepts};
-ghost use Rattle.table_reader.specs.Derivations.{Derives, IsFault};
+ghost use Rattle.table_reader.specs.Derivations.{IsFault};
 ghost use Rattle.table_reader.specs.Machine as machine;
-ghost use Rattle.table_reader.specs.Machine.{IsAt, IsReached, Leads, CanTake, CanFinish, HasFirst, Follows, TakesToken, symbols, left_over};
+ghost use Rattle.table_reader.specs.Machine.{IsAt, IsReached, IsReady, Leads, Ends, HasFirst, Enters, Skips, Takes, TakesToken, Turns, symbols};
 ghost use Rattle.table_reader.specs.Reading.{IsReadAs, IsNotRead};
+ghost use Rattle.table_reader.specs.Steps as steps;
 
 use crate::builds::Builds;
 use crate::choice::{empty_place, find, symbols_at};
 use crate::coming::Coming;
 use crate::item::Item;
-use crate::recognizer::grammar_fault;
 use crate::symbol::Symbol;
 use crate::take::Take;
+use crate::turned::Turned;
 use aen_base::{List, NoMem};
 use std::alloc::Global;
 
 /// Reads lexemes as a part: Ok exactly where they are derived from the part, with the value that its
-/// productions make, which is the only one; else the place of the first fault, as `grammar_fault`
-/// gives it. The only error is want of memory.
+/// productions make, which is the only one; else the place of the first lexeme such that nothing that
+/// is derived begins with the lexemes up to it, or the number of lexemes where more has to come. The
+/// only error is want of memory.
 pub fn read<G: Builds>(
     alloc: Global,
     start: G::Part,
@@ -34,103 +35,136 @@ pub fn read<G: Builds>(
     ensures exact { IfOk result (λ r. MatchResult r (λ value. IsReadAs G.takes G.carrier G.made G.held start lexemes.now value) (λ place. IsFault G.takes G.productions (S.Part start ∷ []) lexemes.now place)) }
     ensures not_read { IfOk result (λ r. MatchResult r (λ value. ⊤) (λ place. IsNotRead G.takes G.carrier G.made start lexemes.now)) }
 {
-    match grammar_fault::<G>(alloc, start, lexemes)? {
-        Some(place) => Ok(Err(place)),
-        None => {
-            let value = make::<G>(alloc, start, lexemes)?;
-            Ok(Ok(value))
-        }
-    }
+    let read = step_through::<G>(alloc, start, lexemes)?;
+    Ok(read)
 }
 
-/// The value of lexemes that are derived from a part.
-fn make<G: Builds>(alloc: Global, start: G::Part, lexemes: &[G::Lexeme]) -> Result<G::Value, NoMem>
-    requires { Derives G.takes G.productions (S.Part start ∷ []) lexemes.now }
-    ensures { IfOk result (λ value. IsReadAs G.takes G.carrier G.made G.held start lexemes.now value) }
+/// The same as steps from the part tell it: the value to which all lexemes lead, or the place where no
+/// step goes on.
+fn step_through<G: Builds>(
+    alloc: Global,
+    start: G::Part,
+    lexemes: &[G::Lexeme],
+) -> Result<Result<G::Value, usize>, NoMem>
+    ensures { IfOk result (λ r. MatchResult r (λ value. (steps.fault_from G.takes G.productions G.rank G.weight (S.Part start ∷ []) lexemes.now ≡ None) × Ends G.takes G.carrier G.made G.held (C.Part start ∷ []) [] lexemes.now value) (λ place. steps.fault_from G.takes G.productions G.rank G.weight (S.Part start ∷ []) lexemes.now ≡ Some place)) }
 {
     let mut coming = List::new(alloc);
     let mut values = List::new(alloc);
+    let mut ways = List::new(alloc);
     coming.push(Coming::Part(start))?;
-    for lexeme in lexemes {
-        take::<G>(alloc, &mut coming, &mut values, lexeme)?;
+    for (place, lexeme) in lexemes.iter().enumerate() {
+        if !take::<G>(alloc, &mut coming, &mut values, &mut ways, lexeme)? {
+            return Ok(Err(place));
+        }
     }
-    let value = finish::<G>(alloc, coming, values)?;
-    Ok(value)
+    match finish::<G>(alloc, coming, values)? {
+        Some(value) => Ok(Ok(value)),
+        None => Ok(Err(lexemes.len())),
+    }
 }
 
-/// Takes a lexeme, in so many pieces as tokens take of it.
+/// Takes a lexeme, in so many pieces as tokens take of it, if it can stand here. What is to come, the
+/// values and each way down stand newest last; a way is put on `ways` and taken off again.
 fn take<G: Builds>(
     alloc: Global,
     coming: &mut List<Coming<G::Terminal, G::Part>>,
     values: &mut List<Item<G::Lexeme, G::Value>>,
+    ways: &mut List<usize>,
     lexeme: &G::Lexeme,
-) -> Result<(), NoMem>
+) -> Result<bool, NoMem>
     requires reached { IsReached G.productions (symbols (reverse coming.old)) }
-    requires can { CanTake G.takes G.carrier G.made G.held (reverse coming.old) (reverse values.old) lexeme.now }
-    ensures { OnOk result (Follows G.takes G.carrier G.made G.held G.productions (reverse coming.old) (reverse values.old) lexeme.now (reverse coming.new) (reverse values.new) []) }
+    requires ready { IsReady G.carrier G.made G.held (reverse coming.old) (reverse values.old) }
+    ensures { IfOk result (λ taken. Takes G.takes G.carrier G.made G.held G.productions G.rank G.weight (reverse coming.old) (reverse values.old) lexeme.now taken (reverse coming.new) (reverse values.new)) }
 {
-    let mut left = turn::<G>(alloc, coming, values, lexeme)?;
-    while let Some(piece) = left {
-        left = turn::<G>(alloc, coming, values, &piece)?;
+    match turn::<G>(alloc, coming, values, ways, lexeme)? {
+        Turned::Refused => Ok(false),
+        Turned::Taken => Ok(true),
+        Turned::Left(piece) => {
+            let taken = take_left::<G>(alloc, coming, values, ways, piece)?;
+            Ok(taken)
+        }
     }
-    Ok(())
 }
 
-/// Takes a lexeme or its front by the next token, and builds what is over before it. Gives what is
-/// left of the lexeme.
+/// Takes what is left of a lexeme after a front of it, if it can stand here.
+fn take_left<G: Builds>(
+    alloc: Global,
+    coming: &mut List<Coming<G::Terminal, G::Part>>,
+    values: &mut List<Item<G::Lexeme, G::Value>>,
+    ways: &mut List<usize>,
+    lexeme: G::Lexeme,
+) -> Result<bool, NoMem>
+    requires reached { IsReached G.productions (symbols (reverse coming.old)) }
+    requires ready { IsReady G.carrier G.made G.held (reverse coming.old) (reverse values.old) }
+    ensures { IfOk result (λ taken. Takes G.takes G.carrier G.made G.held G.productions G.rank G.weight (reverse coming.old) (reverse values.old) lexeme taken (reverse coming.new) (reverse values.new)) }
+{
+    let mut piece = lexeme;
+    loop {
+        match turn::<G>(alloc, coming, values, ways, &piece)? {
+            Turned::Refused => return Ok(false),
+            Turned::Taken => return Ok(true),
+            Turned::Left(left) => piece = left,
+        }
+    }
+}
+
+/// Takes a lexeme or its front by the next token, and builds what is over before it.
 fn turn<G: Builds>(
     alloc: Global,
     coming: &mut List<Coming<G::Terminal, G::Part>>,
     values: &mut List<Item<G::Lexeme, G::Value>>,
+    ways: &mut List<usize>,
     lexeme: &G::Lexeme,
-) -> Result<Option<G::Lexeme>, NoMem>
+) -> Result<Turned<G::Lexeme>, NoMem>
     requires reached { IsReached G.productions (symbols (reverse coming.old)) }
-    requires can { CanTake G.takes G.carrier G.made G.held (reverse coming.old) (reverse values.old) lexeme.now }
-    ensures follows { IfOk result (λ left. Follows G.takes G.carrier G.made G.held G.productions (reverse coming.old) (reverse values.old) lexeme.now (reverse coming.new) (reverse values.new) (left_over left)) }
-    ensures lighter { IfOk result (λ left. MatchOption left ⊤ (λ rest. G.weight rest < G.weight lexeme.now)) }
+    requires ready { IsReady G.carrier G.made G.held (reverse coming.old) (reverse values.old) }
+    ensures { IfOk result (λ turned. Turns G.takes G.carrier G.made G.held G.productions G.rank G.weight (reverse coming.old) (reverse values.old) lexeme.now turned (reverse coming.new) (reverse values.new)) }
 {
     while let Some(symbol) = coming.pop() {
         match symbol {
             Coming::Token(terminal) => {
-                let left = take_token::<G>(alloc, values, terminal, lexeme)?;
-                return Ok(left);
+                let turned = take_token::<G>(alloc, values, terminal, lexeme)?;
+                return Ok(turned);
             }
             Coming::Part(part) => {
-                let entered = enter::<G>(alloc, coming, part, lexeme)?;
+                let entered = enter::<G>(coming, ways, part, lexeme)?;
                 match entered {
                     Some(terminal) => {
-                        let left = take_token::<G>(alloc, values, terminal, lexeme)?;
-                        return Ok(left);
+                        let turned = take_token::<G>(alloc, values, terminal, lexeme)?;
+                        return Ok(turned);
                     }
-                    None => skip::<G>(alloc, values, part)?,
+                    None => {
+                        if !skip::<G>(alloc, values, part)? {
+                            return Ok(Turned::Refused);
+                        }
+                    }
                 }
             }
             Coming::Over(part, index) => over::<G>(alloc, values, part, index)?,
         }
     }
-    unreachable!()
+    Ok(Turned::Refused)
 }
 
-/// Takes a lexeme or its front by a token, whose value it is, and gives what is left of it.
+/// Takes a lexeme or its front by a token, whose value it is.
 fn take_token<G: Builds>(
     alloc: Global,
     values: &mut List<Item<G::Lexeme, G::Value>>,
     terminal: G::Terminal,
     lexeme: &G::Lexeme,
-) -> Result<Option<G::Lexeme>, NoMem>
-    requires { accepts (G.takes terminal lexeme.now) ≡ true }
-    ensures { IfOk result (λ left. TakesToken (G.takes terminal lexeme.now) lexeme.now (reverse values.old) left (reverse values.new)) }
+) -> Result<Turned<G::Lexeme>, NoMem>
+    ensures { IfOk result (λ turned. TakesToken (G.takes terminal lexeme.now) lexeme.now (reverse values.old) turned (reverse values.new)) }
 {
     match G::takes(terminal, lexeme) {
-        Take::No => unreachable!(),
+        Take::No => Ok(Turned::Refused),
         Take::Whole => {
             let value = G::copy(alloc, lexeme)?;
             values.push(Item::Token(value))?;
-            Ok(None)
+            Ok(Turned::Taken)
         }
         Take::Front { taken, left } => {
             values.push(Item::Token(taken))?;
-            Ok(Some(left))
+            Ok(Turned::Left(left))
         }
     }
 }
@@ -139,16 +173,15 @@ fn take_token<G: Builds>(
 /// lexeme. Where the part does not begin with it, all is as before. The way down to the token is found
 /// once, before any of its parts is opened.
 fn enter<G: Builds>(
-    alloc: Global,
     coming: &mut List<Coming<G::Terminal, G::Part>>,
+    ways: &mut List<usize>,
     part: G::Part,
     lexeme: &G::Lexeme,
 ) -> Result<Option<G::Terminal>, NoMem>
     requires { IsReached G.productions (S.Part part ∷ symbols (reverse coming.old)) }
-    ensures { IfOk result (λ o. MatchOption o ((machine.begun G.takes G.productions G.rank part lexeme.now ≡ None) × (coming.new ≡ coming.old)) (λ terminal. (values : List (Item G.Lexeme G.Value)) → Follows G.takes G.carrier G.made G.held G.productions (C.Part part ∷ reverse coming.old) values lexeme.now (C.Token terminal ∷ reverse coming.new) values (lexeme.now ∷ []))) }
+    ensures { IfOk result (λ entered. Enters G.takes G.carrier G.made G.held G.productions G.rank G.weight part lexeme.now entered (reverse coming.old) (reverse coming.new)) }
 {
-    let mut ways = List::new(alloc);
-    if !find::<G>(&mut ways, G::rank(), part, lexeme)? {
+    if !find::<G>(ways, G::rank(), part, lexeme)? {
         return Ok(None);
     }
     let mut part = part;
@@ -211,19 +244,22 @@ fn put<T: Copy, N: Copy>(
     Ok(())
 }
 
-/// Builds the value of a part that is empty.
+/// Builds the value of a part that is empty, if it can be.
 fn skip<G: Builds>(
     alloc: Global,
     values: &mut List<Item<G::Lexeme, G::Value>>,
     part: G::Part,
-) -> Result<(), NoMem>
-    requires { MatchOption (machine.empty_place G.productions part) ⊥ (λ place. CanBuild G.carrier G.held part (G.made part) place (reverse values.old)) }
-    ensures { OnOk result (MatchOption (machine.empty_place G.productions part) ⊥ (λ place. (value : G.Value) (below : List (Item G.Lexeme G.Value)) → MakesBy G.carrier G.held part (G.made part) place (reverse values.old) value below → reverse values.new ≡ I.Part value ∷ below)) }
+) -> Result<bool, NoMem>
+    requires { MatchOption (machine.empty_place G.productions part) ⊤ (λ place. CanBuild G.carrier G.held part (G.made part) place (reverse values.old)) }
+    ensures { IfOk result (λ skipped. Skips (machine.empty_place G.productions part) skipped (λ place. (value : G.Value) (below : List (Item G.Lexeme G.Value)) → MakesBy G.carrier G.held part (G.made part) place (reverse values.old) value below → reverse values.new ≡ I.Part value ∷ below)) }
 {
-    let Some(place) = empty_place::<G>(part) else {
-        unreachable!()
-    };
-    over::<G>(alloc, values, part, place)
+    match empty_place::<G>(part) {
+        None => Ok(false),
+        Some(place) => {
+            over::<G>(alloc, values, part, place)?;
+            Ok(true)
+        }
+    }
 }
 
 /// Builds the value of a part by its production in place `index`, which is over.
@@ -241,21 +277,25 @@ fn over<G: Builds>(
     Ok(())
 }
 
-/// Builds what is over at the end, and gives the value of all lexemes.
+/// Builds what is over at the end, and gives the value of all lexemes; None where more has to come.
 fn finish<G: Builds>(
     alloc: Global,
     coming: List<Coming<G::Terminal, G::Part>>,
     values: List<Item<G::Lexeme, G::Value>>,
-) -> Result<G::Value, NoMem>
-    requires { CanFinish G.takes G.carrier G.made G.held (reverse coming) (reverse values) }
-    ensures { IfOk result (λ it. (value : G.Value) → Leads G.takes G.carrier G.made G.held (reverse coming) (reverse values) [] (I.Part value ∷ []) → it ≡ value) }
+) -> Result<Option<G::Value>, NoMem>
+    requires { IsReady G.carrier G.made G.held (reverse coming) (reverse values) }
+    ensures { IfOk result (λ o. MatchOption o (steps.may_end G.takes G.productions G.rank G.weight (symbols (reverse coming)) ≡ false) (λ it. (steps.may_end G.takes G.productions G.rank G.weight (symbols (reverse coming)) ≡ true) × Ends G.takes G.carrier G.made G.held (reverse coming) (reverse values) [] it)) }
 {
     let mut coming = coming;
     let mut values = values;
     while let Some(symbol) = coming.pop() {
         match symbol {
-            Coming::Token(_) => unreachable!(),
-            Coming::Part(part) => skip::<G>(alloc, &mut values, part)?,
+            Coming::Token(_) => return Ok(None),
+            Coming::Part(part) => {
+                if !skip::<G>(alloc, &mut values, part)? {
+                    return Ok(None);
+                }
+            }
             Coming::Over(part, index) => over::<G>(alloc, &mut values, part, index)?,
         }
     }
@@ -264,6 +304,6 @@ fn finish<G: Builds>(
     };
     match item {
         Item::Token(_) => unreachable!(),
-        Item::Part(value) => Ok(value),
+        Item::Part(value) => Ok(Some(value)),
     }
 }

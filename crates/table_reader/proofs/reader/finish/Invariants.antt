@@ -1,12 +1,13 @@
--- What was built leads to the same value.
-use Rattle.std.proofs.Common.{[], reverse, length}
-use Rattle.table_reader.specs.Machine.{Leads}
+-- What was built ends as all does.
+use Rattle.std.proofs.Common.{reverse, length}
+use Rattle.table_reader.proofs.Ending.{Ending}
 use Rattle.table_reader.proofs.reader.finish.Given as goal
 
 abbrev pub invariant-loop-symbol : goal.invariant-loop-symbol
 invariant-loop-symbol g l =
-    (last : _) → Leads g.G.Grammar.takes g.G.Builds.carrier g.G.Builds.made g.G.Builds.held (reverse l.fn.coming) (reverse l.fn.values) [] last →
-    Leads g.G.Grammar.takes g.G.Builds.carrier g.G.Builds.made g.G.Builds.held (reverse l.coming) (reverse l.values) [] last
+    let b = g.G.Grammar in
+    let v = g.G.Builds in
+    Ending b.takes v.carrier v.made v.held b.productions g.met.G.Builds.same_productions b.rank b.weight g.met.G.Grammar.fits (reverse l.fn.coming) (reverse l.fn.values) (reverse l.coming) (reverse l.values)
 
 abbrev pub decreases-loop-symbol : goal.decreases-loop-symbol
 decreases-loop-symbol g l = length l.coming

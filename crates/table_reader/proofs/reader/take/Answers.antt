@@ -1,20 +1,21 @@
--- Each turn leaves less of the lexeme to what is to come.
-use Rattle.std.proofs.Common.{subst, reverse, [], ◌∷◌}
-use Rattle.table_reader.specs.Machine.{Follows, left_over}
+-- After a front the lexeme is left to what is to come.
+use Rattle.std.proofs.Common.{rules, reverse}
+use Rattle.table_reader.specs.Machine.{IsReached, IsReady, symbols}
 use Rattle.table_reader.proofs.Turning as U
 use Rattle.table_reader.proofs.reader.take.Goals as goal
 
-pub loop-left-preserved : goal.loop-left-preserved
-loop-left-preserved g c =
+pub take_left-requires : goal.take_left-requires
+take_left-requires g c =
     let b = g.G.Grammar in
     let v = g.G.Builds in
-    let follows : Follows b.takes v.carrier v.made v.held b.productions (reverse c.args.coming.now) (reverse c.args.values.now) c.args.lexeme.now (reverse c.loop-left.coming) (reverse c.loop-left.values) (c.in-Some.piece ∷ []) =
-    subst (λ (o : _). Follows b.takes v.carrier v.made v.held b.productions (reverse c.args.coming.now) (reverse c.args.values.now) c.args.lexeme.now (reverse c.loop-left.coming) (reverse c.loop-left.values) (left_over o)) c.in-Some.is c.loop-left.invariant in
-    U.follows_on b.takes v.carrier v.made v.held b.productions g.met.G.Builds.same_productions b.rank b.weight g.met.G.Grammar.fits (reverse c.args.coming.now) (reverse c.loop-left.coming) (reverse c.turn-in-Some.new.coming) (reverse c.args.values.now) (reverse c.loop-left.values) (reverse c.turn-in-Some.new.values) c.args.lexeme.now c.in-Some.piece (left_over c.in_ok-left-2.left) follows
-    c.in_ok-left-2.ensures.follows
+    let moves = (U.at_left b.takes v.carrier v.made v.held b.productions g.met.G.Builds.same_productions b.rank b.weight g.met.G.Grammar.fits (reverse c.args.coming.now) (reverse c.turn.new.coming) (reverse c.args.values.now) (reverse c.turn.new.values) c.args.lexeme.now c.in-Left.piece c.in_ok-turn.field-0 c.in-Left.is c.in_ok-turn.ensures) in
+    let reached : IsReached b.productions (symbols (reverse c.turn.new.coming)) = moves.0.follows.reached in
+    let ready : IsReady v.carrier v.made v.held (reverse c.turn.new.coming) (reverse c.turn.new.values) = moves.0.follows.ready c.requires.ready in
+    search rules
 
-pub loop-left-smaller : goal.loop-left-smaller
-loop-left-smaller g c =
+pub returns-in_ok-taken-in-Left : goal.returns-in_ok-taken-in-Left
+returns-in_ok-taken-in-Left g c =
     let b = g.G.Grammar in
     let v = g.G.Builds in
-    U.left_lighter b.takes v.carrier v.made v.held b.productions g.met.G.Builds.same_productions b.rank b.weight g.met.G.Grammar.fits c.in_ok-left-2.left c.loop-left.left c.in-Some.piece c.in-Some.is c.in_ok-left-2.ensures.lighter
+    U.takes_on b.takes v.carrier v.made v.held b.productions g.met.G.Builds.same_productions b.rank b.weight g.met.G.Grammar.fits (reverse c.args.coming.now) (reverse c.turn.new.coming) (reverse c.take_left.new.coming) (reverse c.args.values.now) (reverse c.turn.new.values) (reverse c.take_left.new.values) c.args.lexeme.now c.in-Left.piece
+    c.in_ok-taken-in-Left.taken (U.at_left b.takes v.carrier v.made v.held b.productions g.met.G.Builds.same_productions b.rank b.weight g.met.G.Grammar.fits (reverse c.args.coming.now) (reverse c.turn.new.coming) (reverse c.args.values.now) (reverse c.turn.new.values) c.args.lexeme.now c.in-Left.piece c.in_ok-turn.field-0 c.in-Left.is c.in_ok-turn.ensures).0 c.in_ok-taken-in-Left.ensures
