@@ -27,6 +27,7 @@ use Rattle.text_table.specs.Lexemes.{has_class}
 use Rattle.text_table.specs.Spelled.{class_among, class_named}
 use Rattle.text_syntax.specs.Among.{and_left, and_right, implied, opposed, either_right}
 use Rattle.text_syntax.specs.Classing.{class_of, class_of_word, class_of_other, class_of_name, class_of_number, class_of_mark, own_or_other, is_numbered, text_of}
+use Rattle.text_syntax.specs.Standing.{token_said}
 use Rattle.raw_completeness.specs.Booleans.{both_true}
 
 -- ---- words, marks and numbers that are known
@@ -116,7 +117,7 @@ name_taken n (Number s) h = absurd h
 name_taken n (Punct m) h = absurd h
 
 pub name_text : (n : List ℕ) (k : LexemeKind) → Stands k (id n) → text_of k ≡ n
-name_text n (Word w) h = sym h.0
+name_text n (Word w) h = token_said T.Name (class_of_word w) w refl (name_taken n (Word w) h) ∙ sym h.0
 name_text n (Marked m) h = sym h
 name_text n (Number s) h = absurd h
 name_text n (Punct m) h = absurd h

@@ -1,7 +1,8 @@
 -- Tokens of the grammar whose lexemes say something, and what they say.
 use Rattle.std.proofs.Common.{◌≡◌, refl, ap, ◌∙◌, ℕ, true, List, ◌++◌, ℤ, pos, arith}
 use Rattle.std.specs.Fmt.{signed_decimal}
-use Rattle.std.specs.Prelude.{codes}
+use Rattle.std.specs.List.{list_all}
+use Rattle.std.specs.Prelude.{not, codes}
 use Rattle.std.proofs.lemmas.Fmt.{decimal_digit}
 use Rattle.aen_base.specs.declared.int_ty.IntTy.{IntTy}
 use Rattle.aen_base.specs.declared.int_ty.IntTy.TheVariants.{U8, U16, U32, U64, U128, Usize, I8, I16, I32, I64, I128, Isize}
@@ -11,8 +12,10 @@ use Rattle.text_meaning.specs.Words.{int_word}
 use Rattle.text_table.specs.declared.lexeme.Lexeme.{Lexeme}
 use Rattle.text_table.specs.declared.terminal.Terminal.{Terminal}
 use Rattle.text_table.specs.declared.terminal.Terminal.TheVariants as T
+use Rattle.text_table.specs.Classes.{classes}
 use Rattle.text_table.specs.Lexemes.{has_class}
-use Rattle.text_syntax.specs.Classing.{class_of, class_of_word, class_of_number, text_of}
+use Rattle.text_syntax.specs.Classing.{class_of, class_of_word, class_of_number, is_fixed, text_of}
+use Rattle.text_syntax.specs.Standing.{token_said}
 use Rattle.raw_ways.specs.Words.{int_of}
 use Rattle.raw_completeness.specs.Classes.{fits, fitting, is_the_word, is_the_number, name_taken, name_text, number_fits, variable_fits, loop_fits, back_fits, int_fits}
 use Rattle.raw_completeness.specs.Rows.{Taking}
@@ -24,17 +27,17 @@ Says w x = x.text ≡ w
 pub names : (n : List ℕ) → Taking T.Name (id n) (Says n)
 names n = λ l s. (name_taken n l.kind s, name_text n l.kind s)
 
-words : (t : Terminal) (w : List ℕ) → fits t (word w) ≡ true → Taking t (word w) (Says w)
-words t w f = λ l s. (fitting t (word w) l.kind f s, ap text_of (is_the_word l.kind w s))
+words : (t : Terminal) (w : List ℕ) → list_all (λ d. not (is_fixed d)) (classes t) ≡ true → fits t (word w) ≡ true → Taking t (word w) (Says w)
+words t w a f = λ l s. (fitting t (word w) l.kind f s, ap text_of (is_the_word l.kind w s) ∙ token_said t (class_of_word w) w a f)
 
 pub variables : (v : ℕ) → IsSmall v → Taking T.Variable (word (var_text v)) (Says (var_text v))
-variables v small = words T.Variable (var_text v) (variable_fits v small)
+variables v small = words T.Variable (var_text v) refl (variable_fits v small)
 
 pub loops : (k : ℕ) → IsSmall k → Taking T.LoopNumber (word (loop_text k)) (Says (loop_text k))
-loops k small = words T.LoopNumber (loop_text k) (loop_fits k small)
+loops k small = words T.LoopNumber (loop_text k) refl (loop_fits k small)
 
 pub backs : (k : ℕ) → IsSmall k → Taking T.Back (word (back_text k)) (Says (back_text k))
-backs k small = words T.Back (back_text k) (back_fits k small)
+backs k small = words T.Back (back_text k) refl (back_fits k small)
 
 pub numbers : (z : ℤ) → Taking T.Number (number z) (Says (signed_decimal z))
 numbers z = λ l s. (fitting T.Number (number z) l.kind (number_fits z) s, ap text_of (is_the_number l.kind z s))

@@ -1,5 +1,5 @@
 -- What is read as a part: its lexemes meet what the part wants, and its value has the part's shape, where each production keeps both.
-use Rattle.std.specs.Prelude.{◌≡◌, refl, Bool, true, false, if◌then◌else◌, List, [], ◌∷◌, map}
+use Rattle.std.specs.Prelude.{◌≡◌, refl, ℕ, Bool, true, false, if◌then◌else◌, List, [], ◌∷◌, map}
 use Rattle.std.proofs.Common.{ap, sym, ◌∙◌, subst, inl, inr}
 use Rattle.table_reader.specs.declared.symbol.Symbol.{Symbol}
 use Rattle.table_reader.specs.declared.symbol.Symbol.TheVariants as S
@@ -9,10 +9,12 @@ use Rattle.table_reader.specs.Derivations.{IsOneOf}
 use Rattle.table_reader.specs.Reading as R
 use Rattle.text_meaning.specs.Lists.{Each}
 use Rattle.text_meaning.specs.Names.{IsName}
+use Rattle.text_meaning.specs.Tokens.{id}
 use Rattle.text_tokens.specs.declared.lexeme.LexemeKind.{LexemeKind}
 use Rattle.text_tokens.specs.declared.lexeme.LexemeKind.TheVariants.{Word, Marked, Number, Punct}
 use Rattle.text_tokens.specs.declared.lexeme.Lexeme.{Lexeme as Spelled}
 use Rattle.text_tokens.specs.Lexing.{BearsName}
+use Rattle.text_tokens.specs.Stands.{Stands}
 use Rattle.text_table.specs.declared.lexeme.Lexeme.{Lexeme}
 use Rattle.text_table.specs.declared.part.Part.{Part}
 use Rattle.text_table.specs.declared.terminal.Terminal.{Terminal}
@@ -72,7 +74,7 @@ abbrev pub BearsNames : List Spelled → Type 0
 BearsNames ls = Each (λ (l : Spelled). BearsName l.kind) ls
 
 name_of : (k : LexemeKind) → has_class T.Name (class_of k) ≡ true → BearsName k → IsName (text_of k)
-name_of (Word w) h g = bare_name w (is_id (Word w) h).1
+name_of (Word w) h g = let s : Stands (Word w) (id (text_of (Word w))) = is_id (Word w) h in subst (λ (x : List ℕ). IsName x) (sym s.0) (bare_name w s.1)
 name_of (Marked n) h g = g
 name_of (Number s) h g = absurd (is_id (Number s) h)
 name_of (Punct m) h g = absurd (is_id (Punct m) h)

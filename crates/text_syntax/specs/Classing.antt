@@ -1,5 +1,5 @@
 -- The class of a lexeme (TEXT.md, "Tokens", "Words", "Names").
-use Rattle.std.specs.Prelude.{ℕ, Bool, false, ◌&&◌, ◌==◌, if◌then◌else◌, List, [], ◌∷◌, Option, Some, None, codes, bytes_eq}
+use Rattle.std.specs.Prelude.{ℕ, Bool, true, false, ◌&&◌, ◌||◌, ◌==◌, if◌then◌else◌, List, [], ◌∷◌, Option, Some, None, codes, bytes_eq}
 use Rattle.text_meaning.specs.declared.mark.Mark.{Mark}
 use Rattle.text_meaning.specs.declared.mark.Mark.TheVariants as M
 use Rattle.text_meaning.specs.Names.{is_bare, is_variable, are_digits}
@@ -60,12 +60,69 @@ class_of (Marked n) = C.Other
 class_of (Number s) = class_of_number s
 class_of (Punct m) = class_of_mark m
 
--- what a lexeme says beside its class
+-- words of the language that are no names
+abbrev pub is_keyword : Class → Bool
+is_keyword C.Import = true
+is_keyword C.AenPrelude = true
+is_keyword C.Open = true
+is_keyword C.Inductive = true
+is_keyword C.Structure = true
+is_keyword C.Type = true
+is_keyword C.Where = true
+is_keyword C.Def = true
+is_keyword C.Fuel = true
+is_keyword C.Nat = true
+is_keyword C.Result = true
+is_keyword C.Match = true
+is_keyword C.With = true
+is_keyword C.OutOfFuel = true
+is_keyword C.Do = true
+is_keyword C.Let = true
+is_keyword C.True = true
+is_keyword C.False = true
+is_keyword C.Ok = true
+is_keyword C.Fail = true
+is_keyword C.Brk = true
+is_keyword C.Ret = true
+is_keyword C.Bool = true
+is_keyword C.Unit = true
+is_keyword C.Exit = true
+is_keyword C.Fn = true
+is_keyword c = false
+
+-- names of integer types
+abbrev pub is_int : Class → Bool
+is_int C.U8 = true
+is_int C.U16 = true
+is_int C.U32 = true
+is_int C.U64 = true
+is_int C.U128 = true
+is_int C.Usize = true
+is_int C.I8 = true
+is_int C.I16 = true
+is_int C.I32 = true
+is_int C.I64 = true
+is_int C.I128 = true
+is_int C.Isize = true
+is_int c = false
+
+-- the class tells the word, and no token of the grammar takes it for its text
+abbrev pub is_fixed : Class → Bool
+is_fixed c = is_keyword c || is_int c
+
+-- what a word of this class says beside its class
+unfoldable pub said : Class → List ℕ → List ℕ
+said c w = if is_fixed c then [] else w
+
+-- what a lexeme of this class says beside its class
+abbrev pub text_in : Class → LexemeKind → List ℕ
+text_in c (Word w) = said c w
+text_in c (Marked n) = n
+text_in c (Number s) = s
+text_in c (Punct m) = []
+
 abbrev pub text_of : LexemeKind → List ℕ
-text_of (Word w) = w
-text_of (Marked n) = n
-text_of (Number s) = s
-text_of (Punct m) = []
+text_of k = text_in (class_of k) k
 
 -- a lexeme with its class
 abbrev pub lexeme_of : Spelled → Lexeme

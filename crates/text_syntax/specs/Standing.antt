@@ -1,5 +1,5 @@
 -- What a lexeme is that a token of the grammar takes: its word, its mark, an id, digits (TEXT.md, "Tokens", "Names").
-use Rattle.std.specs.Prelude.{◌≡◌, refl, ℕ, Bool, true, false, not, ◌||◌, if◌then◌else◌, List, [], ◌∷◌, Option, Some, None, is_some, codes, bytes_eq, pos}
+use Rattle.std.specs.Prelude.{◌≡◌, refl, ℕ, Bool, true, false, not, ◌&&◌, ◌||◌, if◌then◌else◌, List, [], ◌∷◌, Option, Some, None, is_some, codes, bytes_eq, pos}
 use Rattle.std.specs.Fmt.{digits}
 use Rattle.std.specs.List.{list_all}
 use Rattle.std.proofs.Common.{ap, sym, ◌∙◌, subst}
@@ -17,8 +17,8 @@ use Rattle.text_table.specs.declared.terminal.Terminal.TheVariants as T
 use Rattle.text_table.specs.Classes.{classes, spelling, names}
 use Rattle.text_table.specs.Lexemes.{has_class}
 use Rattle.text_table.specs.Spelled.{class_among, class_named}
-use Rattle.text_syntax.specs.Among.{is_one_of, each_one, none_of, only_class, implied}
-use Rattle.text_syntax.specs.Classing.{class_of, class_of_word, class_of_other, class_of_number, class_of_mark, own_or_other, is_numbered, text_of}
+use Rattle.text_syntax.specs.Among.{is_one_of, each_one, none_of, only_class, implied, and_right}
+use Rattle.text_syntax.specs.Classing.{class_of, class_of_word, class_of_other, class_of_number, class_of_mark, own_or_other, is_numbered, is_fixed, said, text_of}
 use Rattle.text_syntax.specs.Kinds.{among, other_classes, other_class, excluded, same_bytes}
 
 -- ---- words
@@ -56,12 +56,31 @@ one_word_stands c k a h =
 
 -- ---- words with a number
 
--- a class that words alone have
+-- a word says itself whose class does not tell it
+said_by : (b : Bool) (w : List ℕ) → not b ≡ true → (if b then [] else w) ≡ w
+said_by true w h = absurd cc
+said_by false w h = refl
+
+abbrev is_said : Class → Bool
+is_said c = not (is_fixed c)
+
+all_said : (c : Class) (w : List ℕ) → is_said c ≡ true → said c w ≡ w
+unfolding said
+all_said c w h = said_by (is_fixed c) w h
+
+-- so does each word that a token takes none of whose classes tells its word
+pub token_said : (t : Terminal) (c : Class) (w : List ℕ) → list_all (λ d. not (is_fixed d)) (classes t) ≡ true → has_class t c ≡ true → said c w ≡ w
+token_said t c w a h = all_said c w (each_one is_said (classes t) c a h)
+
+-- a class that words alone have, and that does not tell the word
 abbrev pub is_of_words : Class → Bool
-is_of_words c = is_name c || is_one_of c (C.LoopNumber ∷ C.BackNumber ∷ C.Variable ∷ C.Excluded ∷ [])
+is_of_words c = (is_name c || is_one_of c (C.LoopNumber ∷ C.BackNumber ∷ C.Variable ∷ C.Excluded ∷ [])) && is_said c
 
 some_word : (k : LexemeKind) → is_of_words (class_of k) ≡ true → k ≡ Word (text_of k)
-some_word (Word w) h = refl
+some_word (Word w) h =
+    let c : Class = class_of_word w in
+    let s : is_said c ≡ true = and_right (is_name c || is_one_of c (C.LoopNumber ∷ C.BackNumber ∷ C.Variable ∷ C.Excluded ∷ [])) (is_said c) h in
+    ap (λ (x : List ℕ). Word x) (sym (all_said c w s))
 some_word (Marked n) h = absurd (excluded is_of_words (Marked n) refl h)
 some_word (Number s) h = absurd (excluded is_of_words (Number s) refl h)
 some_word (Punct m) h = absurd (excluded is_of_words (Punct m) refl h)
@@ -93,7 +112,7 @@ name_by None w e h = name_of_other (is_bare w) (is_numbered (codes "loop") w) (i
 
 -- what `Name` takes is an id of its text
 pub is_id : (k : LexemeKind) → has_class T.Name (class_of k) ≡ true → Stands k (id (text_of k))
-is_id (Word w) h = (refl, name_by (class_named w) w refl h)
+is_id (Word w) h = (token_said T.Name (class_of_word w) w refl h, name_by (class_named w) w refl h)
 is_id (Marked n) h = refl
 is_id (Number s) h = absurd (excluded (has_class T.Name) (Number s) refl h)
 is_id (Punct m) h = absurd (excluded (has_class T.Name) (Punct m) refl h)

@@ -108,12 +108,81 @@ fn class_of_mark(mark: Mark) -> Class
     }
 }
 
-/// What a lexeme says. The only error is want of memory.
-fn text_of(alloc: Global, kind: LexemeKind) -> Result<Name, NoMem>
-    ensures { IfOk result (λ it. it ≡ spec.text_of kind) }
+/// Whether a word of this class is one of the language that is no name.
+fn is_keyword(class: Class) -> bool
+    ensures { result ≡ spec.is_keyword class }
+{
+    match class {
+        Class::Import
+        | Class::AenPrelude
+        | Class::Open
+        | Class::Inductive
+        | Class::Structure
+        | Class::Type
+        | Class::Where
+        | Class::Def
+        | Class::Fuel
+        | Class::Nat
+        | Class::Result
+        | Class::Match
+        | Class::With
+        | Class::OutOfFuel
+        | Class::Do
+        | Class::Let
+        | Class::True
+        | Class::False
+        | Class::Ok
+        | Class::Fail
+        | Class::Brk
+        | Class::Ret
+        | Class::Bool
+        | Class::Unit
+        | Class::Exit
+        | Class::Fn => true,
+        _ => false,
+    }
+}
+
+/// Whether a word of this class names an integer type.
+fn is_int(class: Class) -> bool
+    ensures { result ≡ spec.is_int class }
+{
+    match class {
+        Class::U8
+        | Class::U16
+        | Class::U32
+        | Class::U64
+        | Class::U128
+        | Class::Usize
+        | Class::I8
+        | Class::I16
+        | Class::I32
+        | Class::I64
+        | Class::I128
+        | Class::Isize => true,
+        _ => false,
+    }
+}
+
+/// What a word of this class says beside its class: nothing where the class tells the word and no token
+/// of the grammar takes it for its text, so that it takes no memory. The only error is want of memory.
+#[tactic(auto, unfolding(crate::specs::Classing::said))]
+fn said(alloc: Global, class: Class, word: Name) -> Result<Name, NoMem>
+    ensures { IfOk result (λ it. it ≡ spec.said class word) }
+{
+    if is_keyword(class) || is_int(class) {
+        Name::from_str(alloc, "")
+    } else {
+        Ok(word)
+    }
+}
+
+/// What a lexeme of this class says beside its class. The only error is want of memory.
+fn text_in(alloc: Global, class: Class, kind: LexemeKind) -> Result<Name, NoMem>
+    ensures { IfOk result (λ it. it ≡ spec.text_in class kind) }
 {
     match kind {
-        LexemeKind::Word(word) => Ok(word),
+        LexemeKind::Word(word) => said(alloc, class, word),
         LexemeKind::Marked(name) => Ok(name),
         LexemeKind::Number(digits) => Ok(digits),
         LexemeKind::Punct(_) => Name::from_str(alloc, ""),
@@ -126,7 +195,7 @@ fn lexeme_of(alloc: Global, lexeme: text_tokens::Lexeme) -> Result<Lexeme, NoMem
 {
     let text_tokens::Lexeme { kind, span } = lexeme;
     let class = class_of(&kind);
-    let text = text_of(alloc, kind)?;
+    let text = text_in(alloc, class, kind)?;
     Ok(Lexeme { class, span, text })
 }
 
