@@ -7,7 +7,8 @@ written out, and proved, wherever a tree is dropped.
 
 A description says besides what trees.py wants: USE (the file's imports), DOCS (a sentence for each sort and form), CODE
 (of a sort of another tree: its Rust type and the function that gives what is seen of it), VIEWS and FALLS (imports).
-OWN_DROPS = True says that each tree has a drop of its own, and so an `into_node`."""
+OWN_DROPS = True says that each tree has a drop of its own, and so an `into_node`. VARIANTS names the variants of
+forms whose name in code is another one."""
 import os
 import re
 import sys
@@ -19,13 +20,14 @@ D = found["TREES"][tree]
 SORTS, LISTS, OPTIONS = D["SORTS"], D["LISTS"], D["OPTIONS"]
 OTHER, DOCS = D.get("CODE", {}), D["DOCS"]
 OWN_DROPS = found.get("OWN_DROPS", False)
+VARIANTS = D.get("VARIANTS", {})
 RUST = {"ℕ": "u32", "Bool": "bool", "Magnitude": "u128", "Number": "Num"}
 module = re.sub(r"(?<!^)(?=[A-Z])", "_", tree).lower()
 made = f"tools/code.py from tools/{description.split('/')[-1]}"
 
 
 def camel(form):
-    return "".join(word.capitalize() for word in form.split("_"))
+    return VARIANTS.get(form) or "".join(word.capitalize() for word in form.split("_"))
 
 
 # ---------------------------------------------------------------------- which sorts lead back to themselves

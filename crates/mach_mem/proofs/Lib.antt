@@ -1,0 +1,6 @@
+mod Exchanged
+mod Filled
+mod Items
+mod Tabled
+mod Viewed
+mod Written

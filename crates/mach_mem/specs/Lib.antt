@@ -1,0 +1,11 @@
+pub mod Addresses
+pub mod Cells
+pub mod Trees
+pub mod TreesView
+pub mod TreesFalls
+pub mod Memory
+pub mod Parts
+pub mod Slots
+pub mod Laws
+pub mod Steps
+pub mod View
