@@ -1,0 +1,10 @@
+pub mod Arguing
+pub mod Beginning
+pub mod Checking
+pub mod Failing
+pub mod Items
+pub mod Walking
+pub mod WalkedArms
+pub mod WalkedParts
+pub mod WalkedStmts
+pub mod WalkedValues

@@ -1,0 +1,4 @@
+pub mod Checked
+pub mod Gives
+pub mod Parts
+pub mod Walks

@@ -1,0 +1,4 @@
+pub mod Breaks
+pub mod Copied
+pub mod Inits
+pub mod Operator

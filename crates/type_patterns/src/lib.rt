@@ -1,0 +1,5 @@
+//! A stand-in.
+#![tactic(auto)]
+
+pub mod binding;
+pub mod patterns;
