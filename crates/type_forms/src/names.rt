@@ -37,8 +37,8 @@ fn put_names(pattern: &Pat, names: &mut List<u32>) -> Result<(), NoMem>
 fn put_all(parts: &[Pat], names: &mut List<u32>) -> Result<(), NoMem>
     ensures { OnOk result (names.new ≡ names.old ++ spec.names_in_all (q.pats parts.now)) }
 {
-    for i in 0..parts.len() {
-        put_names(&parts[i], names)?;
+    for part in parts {
+        put_names(part, names)?;
     }
     Ok(())
 }
@@ -48,8 +48,8 @@ fn put_all(parts: &[Pat], names: &mut List<u32>) -> Result<(), NoMem>
 fn put_fields(fields: &[(u32, Pat)], names: &mut List<u32>) -> Result<(), NoMem>
     ensures { OnOk result (names.new ≡ names.old ++ spec.names_in_fields (q.fieldpats fields.now)) }
 {
-    for i in 0..fields.len() {
-        put_names(&fields[i].1, names)?;
+    for field in fields {
+        put_names(&field.1, names)?;
     }
     Ok(())
 }

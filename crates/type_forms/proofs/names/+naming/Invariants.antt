@@ -12,8 +12,8 @@ decreases-put_all l = q.nodes_pats (q.pats l.parts.now)
 abbrev pub decreases-put_fields : goal.decreases-put_fields
 decreases-put_fields l = q.nodes_fieldpats (q.fieldpats l.fields.now)
 
-abbrev pub invariant-put_all-loop-i : goal.invariant-put_all-loop-i
-invariant-put_all-loop-i l = l.names ++ names_in_all (q.pats (drop l.i l.parts)) ≡ l.fn.names ++ names_in_all (q.pats l.parts)
+abbrev pub invariant-put_all-loop-part : goal.invariant-put_all-loop-part
+invariant-put_all-loop-part l = l.names ++ names_in_all (q.pats (drop l.part-index l.parts)) ≡ l.fn.names ++ names_in_all (q.pats l.parts)
 
-abbrev pub invariant-put_fields-loop-i : goal.invariant-put_fields-loop-i
-invariant-put_fields-loop-i l = l.names ++ names_in_fields (q.fieldpats (drop l.i l.fields)) ≡ l.fn.names ++ names_in_fields (q.fieldpats l.fields)
+abbrev pub invariant-put_fields-loop-field : goal.invariant-put_fields-loop-field
+invariant-put_fields-loop-field l = l.names ++ names_in_fields (q.fieldpats (drop l.field-index l.fields)) ≡ l.fn.names ++ names_in_fields (q.fieldpats l.fields)

@@ -1,0 +1,4 @@
+pub mod Sames
+pub mod SameSuits
+pub mod Steps
+pub mod Suiting

@@ -1,0 +1,3 @@
+//! Patterns that typing gives suit the types that they meet (`specs/Suiting.antt`), as coverage asks of
+//! them.
+#![tactic(auto)]

@@ -1,0 +1,4 @@
+pub mod Failing
+pub mod Items
+pub mod Walking
+pub mod WalkedStmts
