@@ -1,6 +1,7 @@
 //! Whether a type is covered. The only error is want of memory.
 ghost use Rattle.std.specs.Prelude.{◌≡◌, [], ◌∷◌, IfOk};
 ghost use Rattle.rust_ast.specs.Spelled as s;
+ghost use Rattle.type_cover.specs.Suits.{PatternsSuit};
 ghost use Rattle.type_rules.specs.Branches.{patterns_of};
 ghost use Rattle.type_rules.specs.Coverage as spec;
 
@@ -11,7 +12,7 @@ use rust_ast::spelled_patterns::Pat;
 use std::alloc::Global;
 use type_cover::is_covered;
 
-/// Whether some value of the type meets none of the arms.
+/// Whether some value of the type meets none of the arms, whose patterns suit it.
 #[tactic(auto, using(crate::proofs::Patterns::patterns_are))]
 pub fn are_uncovered(
     alloc: Global,
@@ -19,22 +20,24 @@ pub fn are_uncovered(
     ty: &Ty,
     arms: &[(Pat, Val)],
 ) -> Result<bool, NoMem>
+    requires suit { PatternsSuit decls.now (patterns_of (s.arms arms.now)) ty.now }
     ensures { IfOk result (λ b. b ≡ spec.is_uncovered decls.now ty.now (patterns_of (s.arms arms.now))) }
 {
     let mut patterns = List::new(alloc);
-    for i in 0..arms.len() {
-        patterns.push(&arms[i].0)?;
+    for arm in arms {
+        patterns.push(&arm.0)?;
     }
     Ok(!is_covered(alloc, decls.as_slice(), ty, patterns.as_slice())?)
 }
 
-/// Whether some value of the type doesn't meet the pattern.
+/// Whether some value of the type doesn't meet the pattern, which suits it.
 pub fn is_uncovered_by(
     alloc: Global,
     decls: &List<TypeDecl>,
     ty: &Ty,
     pattern: &Pat,
 ) -> Result<bool, NoMem>
+    requires suit { PatternsSuit decls.now (pattern.now ∷ []) ty.now }
     ensures { IfOk result (λ b. b ≡ spec.is_uncovered decls.now ty.now (pattern.now ∷ [])) }
 {
     let mut patterns = List::new(alloc);

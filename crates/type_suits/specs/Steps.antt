@@ -15,11 +15,14 @@ use Rattle.type_rules.specs.TypeFacts.{count, is_large, no_region}
 use Rattle.type_rules.specs.declared.fault.KindOfFault.{KindOfFault}
 use Rattle.type_rules.specs.declared.fault.KindOfFault.TheVariants.{MoveOut}
 
-value_or : {A : Type 0} → A → Result A Fault → A
+abbrev value_or : {A : Type 0} → A → Result A Fault → A
 value_or d (Ok a) = a
 value_or d (Err x) = d
 
-pub ok_is : {A : Type 0} {a b : A} → (Ok a : Result A Fault) ≡ Ok b → a ≡ b
+abbrev Both : {A : Type 0} → Result A Fault → Result A Fault → Type 0
+Both o p = o ≡ p
+
+pub ok_is : {A : Type 0} {a b : A} → Both (Ok a) (Ok b) → a ≡ b
 ok_is {A} {a} {b} h = ap (value_or a) h
 
 pub passed : {A B : Type 0} (o : Result A Fault) (f : A → Result B Fault) (b : B) → and_then o f ≡ Ok b → (a : A) × ((o ≡ Ok a) × (f a ≡ Ok b))
@@ -103,21 +106,20 @@ pub record IsPlaced (k : ℕ) (fs : List (List ℕ × t.Ty)) (f : ℕ × t.Ty) :
   pub number : f.0 ≡ k + place
   pub there : slice_get fs place ≡ Some (name, f.1)
 
-some_or : {A : Type 0} → A → Option A → A
+abbrev some_or : {A : Type 0} → A → Option A → A
 some_or d (Some a) = a
 some_or d None = d
 
-mutual
-  pub placed : (name : List ℕ) (k : ℕ) (fs : List (List ℕ × t.Ty)) (f : ℕ × t.Ty) → field_named name k fs ≡ Some f → IsPlaced k fs f
-  placed name k [] f h = absurd cc
-  placed name k (g ∷ gs) f h = placed_at name k g gs f (bytes_eq g.0 name) h
+placed_at : (name : List ℕ) (k : ℕ) (g : List ℕ × t.Ty) (gs : List (List ℕ × t.Ty)) (f : ℕ × t.Ty) → (field_named name (k + 1) gs ≡ Some f → IsPlaced (k + 1) gs f) → (b : Bool) →
+    (if b then Some (k, g.1) else field_named name (k + 1) gs) ≡ Some f → IsPlaced k (g ∷ gs) f
+placed_at name k g gs f more true h =
+    let e : (k, g.1) ≡ f = ap (some_or (k, g.1)) h in
+    record { place = 0; name = g.0; number = sym (ap (λ z. z.0) e) ∙ omega arith; there = ap (λ z. Some (g.0, z)) (ap (λ z. z.1) e) }
+placed_at name k g gs f more false h =
+    let p = more h in
+    let n = p.number in
+    record { place = suc p.place; name = p.name; number = omega (arith, n); there = p.there }
 
-  placed_at : (name : List ℕ) (k : ℕ) (g : List ℕ × t.Ty) (gs : List (List ℕ × t.Ty)) (f : ℕ × t.Ty) (b : Bool) →
-      (if b then Some (k, g.1) else field_named name (k + 1) gs) ≡ Some f → IsPlaced k (g ∷ gs) f
-  placed_at name k g gs f true h =
-      let e : (k, g.1) ≡ f = ap (some_or (k, g.1)) h in
-      record { place = 0; name = g.0; number = sym (ap (λ z. z.0) e) ∙ omega arith; there = ap (λ z. Some (g.0, z)) (ap (λ z. z.1) e) }
-  placed_at name k g gs f false h =
-      let p = placed name (k + 1) gs f h in
-      let n = p.number in
-      record { place = suc p.place; name = p.name; number = omega (arith, n); there = p.there }
+pub placed : (name : List ℕ) (k : ℕ) (fs : List (List ℕ × t.Ty)) (f : ℕ × t.Ty) → field_named name k fs ≡ Some f → IsPlaced k fs f
+placed name k [] f h = absurd cc
+placed name k (g ∷ gs) f h = placed_at name k g gs f (placed name (k + 1) gs f) (bytes_eq g.0 name) h

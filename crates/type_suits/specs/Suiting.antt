@@ -148,7 +148,7 @@ construct_good ds s d v ls xs ts g m x r e h =
     let v1 = unrefused (wrong || not (source_length xs == length fs)) s Arity (Ok (q.construct d v (numbered_pats 0 w.0.0), w.0.1)) r u.1 in
     let long : source_length xs ≡ length fs = eqb-true (source_length xs) (length fs) (not_false (source_length xs == length fs) (or_parts wrong (not (source_length xs == length fs)) v1.0).1) in
     let parts = λ (args : List t.Ty) (q : o ≡ Some args).
-        numbered_suit ds d.0 v args w.0.0 fs 0 (λ i. refl) (g (put_in_fields (Some args) fs) m ts w.0 (long ∙ sym (put_length args fs)) (subst (λ z. patterns ds xs (put_in_fields z fs) m ts ≡ Ok w.0) q w.1.0)).1 in
+        numbered_suit ds d.0 v args w.0.0 fs 0 (λ i. ap (slice_get fs) (omega arith)) (g (put_in_fields (Some args) fs) m ts w.0 (long ∙ sym (put_length args fs)) (subst (λ z. patterns ds xs (put_in_fields z fs) m ts ≡ Ok w.0) q w.1.0)).1 in
     let met = declared_suits ds d.0 v (numbered_pats 0 w.0.0) _ _ x o refl u.0 parts in
     subst (λ z. Suits ds z (Some x)) (ap (λ z. z.0) (ok_is v1.1)) (met.0, numbered_apart 0 w.0.0, met.1)
 
@@ -161,7 +161,7 @@ Apart seen ks = (are_distinct ks ≡ true) × ((j : ℕ) → list_any (λ k. k =
 abbrev FieldsGood : List TypeDecl → p.FieldPats → Type 0
 FieldsGood ds xs = (d v : ℕ) (args : Option (List t.Ty)) (seen : List ℕ) (m : Met) (ts : List t.Ty) (r : q.FieldPats × List t.Ty) →
     field_patterns ds xs (fields_of ds d v) args seen m ts ≡ Ok r →
-    Apart seen (field_numbers r.0) × ((as : List t.Ty) → args ≡ Some as → FieldsSuit ds d v as r.0)
+    Apart seen (field_numbers r.0) × ((given : List t.Ty) → args ≡ Some given → FieldsSuit ds d v given r.0)
 
 abbrev literal_of : List TypeDecl → Span → TypeId → ℕ → List (List t.Ty) → p.FieldPats → List t.Ty → Met → Option t.Ty → Bound
 literal_of ds s d v ls xs ts m o =
@@ -218,7 +218,7 @@ field_step ds s x rest d v args seen m ts o =
 
 field_good : (ds : List TypeDecl) (s : Span) (name : List ℕ) (x : p.Pat) (rest : p.FieldPats) → ((ts : List t.Ty) → Good ds (λ m. pattern ds x m ts)) → FieldsGood ds rest →
     (d v : ℕ) (args : Option (List t.Ty)) (seen : List ℕ) (m : Met) (ts : List t.Ty) (r : q.FieldPats × List t.Ty) (o : Part) → field_named name 0 (fields_of ds d v) ≡ o →
-    field_step ds s x rest d v args seen m ts o ≡ Ok r → Apart seen (field_numbers r.0) × ((as : List t.Ty) → args ≡ Some as → FieldsSuit ds d v as r.0)
+    field_step ds s x rest d v args seen m ts o ≡ Ok r → Apart seen (field_numbers r.0) × ((given : List t.Ty) → args ≡ Some given → FieldsSuit ds d v given r.0)
 field_good ds s name x rest good all d v args seen m ts r None named h = absurd cc
 field_good ds s name x rest good all d v args seen m ts r (Some f) named h =
     let u = unrefused (list_any (λ k. k == f.0) seen) s Field _ r h in
@@ -229,10 +229,10 @@ field_good ds s name x rest good all d v args seen m ts r (Some f) named h =
     let place = placed name 0 (fields_of ds d v) f named in
     let there : slice_get (fields_of ds d v) f.0 ≡ Some (place.name, f.1) = ap (slice_get (fields_of ds d v)) (place.number ∙ omega arith) ∙ place.there in
     (subst (λ z. Apart seen (field_numbers z)) is (one_apart f.0 seen (field_numbers l.0.0) u.0 more.0),
-    λ as e. subst (FieldsSuit ds d v as) is (
-        subst (Suits ds w.0.0) (ap (option_map (λ (y : List ℕ × t.Ty). substitute as y.1)) (sym there))
-        (good ts (inside m (field_type args (Some f))) (substitute as f.1) w.0 (ap (λ z. field_type z (Some f)) e) w.1.0),
-        more.1 as e))
+    λ given e. subst (FieldsSuit ds d v given) is (
+        subst (Suits ds w.0.0) (ap (option_map (λ (y : List ℕ × t.Ty). substitute given y.1)) (sym there))
+        (good ts (inside m (field_type args (Some f))) (substitute given f.1) w.0 (ap (λ z. field_type z (Some f)) e) w.1.0),
+        more.1 given e))
 
 -- ---- the recursion
 
@@ -262,6 +262,6 @@ mutual
 
   field_patterns_suit : (ds : List TypeDecl) (xs : p.FieldPats) → FieldsGood ds xs
   field_patterns_suit ds p.no_fieldpats d v args seen m ts r h =
-      subst (λ z. Apart seen (field_numbers z) × ((as : List t.Ty) → args ≡ Some as → FieldsSuit ds d v as z)) (ap (λ z. z.0) (ok_is h)) (no_field_apart seen, λ as e. tt)
+      subst (λ z. Apart seen (field_numbers z) × ((given : List t.Ty) → args ≡ Some given → FieldsSuit ds d v given z)) (ap (λ z. z.0) (ok_is h)) (no_field_apart seen, λ given e. tt)
   field_patterns_suit ds (p.more_fieldpats s name x rest) d v args seen m ts r h =
       field_good ds s name x rest (pattern_suits ds x) (field_patterns_suit ds rest) d v args seen m ts r (field_named name 0 (fields_of ds d v)) refl h
