@@ -36,8 +36,8 @@ pub fn param_at(alloc: Global, params: &[Ty], place: usize) -> Result<Option<Ty>
 fn is_written(number: u32, before: &[(u32, Val)]) -> bool
     ensures { result ≡ inits.is_written number before.now }
 {
-    for i in 0..before.len() {
-        if before[i].0 == number {
+    for field in before {
+        if field.0 == number {
             return true;
         }
     }

@@ -13,7 +13,6 @@ use std::alloc::Global;
 use type_cover::is_covered;
 
 /// Whether some value of the type meets none of the arms, whose patterns suit it.
-#[tactic(auto, using(crate::proofs::Patterns::patterns_are))]
 pub fn are_uncovered(
     alloc: Global,
     decls: &List<TypeDecl>,

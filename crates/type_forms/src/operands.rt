@@ -197,7 +197,6 @@ fn each_expected(alloc: Global, expected: &Expected, parts: &[Ty]) -> Result<Lis
 }
 
 /// The types of values.
-#[tactic(auto, using(crate::proofs::Types::types_are))]
 fn types_of(alloc: Global, values: &[Val]) -> Result<List<Ty>, NoMem>
     ensures { IfOk result (λ ts. t.tys ts ≡ spec.types_of (s.values values.now)) }
 {
