@@ -1,4 +1,6 @@
-pub mod Sames
+pub mod Arms
+pub mod Laws
 pub mod SameSuits
+pub mod Sames
 pub mod Steps
 pub mod Suiting
