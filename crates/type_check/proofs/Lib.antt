@@ -1,10 +1,2 @@
-pub mod Arguing
 pub mod Beginning
 pub mod Checking
-pub mod Failing
-pub mod Items
-pub mod Walking
-pub mod WalkedArms
-pub mod WalkedParts
-pub mod WalkedStmts
-pub mod WalkedValues

@@ -1,4 +1,2 @@
 pub mod Checked
-pub mod Gives
-pub mod Parts
 pub mod Walks

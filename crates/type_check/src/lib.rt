@@ -1,17 +1,7 @@
 //! From a program with names resolved to the same program with types, or its first fault (LANGUAGE.md,
-//! "Types"). Each function here gives what the definition of the same form in `type_rules` gives. The
-//! recursion is as deep as a program is nested, which the limits on brackets and operators bound where
-//! it was read from a source.
+//! "Types").
 #![tactic(auto)]
 
-mod binding;
-mod branches;
-mod calls;
-mod expressions;
-mod jumps;
-mod operators;
-mod places;
 mod programs;
-mod statements;
 
 pub use programs::{Typed, check};

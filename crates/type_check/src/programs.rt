@@ -4,7 +4,6 @@ ghost use Rattle.type_check.specs.Checked as checked;
 ghost use Rattle.type_rules.specs.Programs as spec;
 ghost use Rattle.type_values.specs.Gives.{Answers};
 
-use crate::statements::read_block;
 use aen_base::{FnId, List, Name, NoMem, VarId, at};
 use core_ty::{Sig, Ty, TyNode, copy_tys};
 use region_sigs::decls;
@@ -13,6 +12,7 @@ use rust_ast::spelled::Block;
 use rust_ast::{Resolved, Spelled, Variable, spelling};
 use std::alloc::Global;
 use std::mem;
+use type_bodies::read_block;
 use type_forms::operands::want;
 use type_rules::{Scope, State};
 use type_values::TypeFault;

@@ -1,8 +1,8 @@
 //! Calls and constructors.
 ghost use Rattle.std.specs.Prelude.{[]};
 ghost use Rattle.rust_ast.specs.Resolved as e;
-ghost use Rattle.type_check.specs.Gives.{GivesArgument, GivesArguments};
-ghost use Rattle.type_check.specs.Parts.{called, constructed, operand, typed_call, typed_braces};
+ghost use Rattle.type_bodies.specs.Gives.{GivesArgument, GivesArguments};
+ghost use Rattle.type_bodies.specs.Parts.{called, constructed, operand, typed_call, typed_braces};
 ghost use Rattle.type_rules.specs.Arguments as rules;
 ghost use Rattle.type_rules.specs.Bodies as spec;
 ghost use Rattle.type_rules.specs.Fields as fields;
@@ -148,7 +148,7 @@ fn read_constructed(
 
 /// An argument with the type of its parameter, if it has one, and what is found by it.
 #[cycle(reading)]
-#[tactic(auto, using(crate::proofs::Arguing::argument_steps))]
+#[tactic(auto, using(type_calls::specs::Steps::argument_is))]
 fn read_argument(
     alloc: Global,
     scope: &Scope,

@@ -1,7 +1,7 @@
 //! `if` and `match`.
 ghost use Rattle.rust_ast.specs.Resolved as e;
-ghost use Rattle.type_check.specs.Gives.{GivesArms};
-ghost use Rattle.type_check.specs.Parts.{arm, operand, yes_and_no};
+ghost use Rattle.type_bodies.specs.Gives.{GivesArms};
+ghost use Rattle.type_bodies.specs.Parts.{arm, operand, yes_and_no};
 ghost use Rattle.std.specs.Prelude.{None};
 ghost use Rattle.type_rules.specs.Bodies as spec;
 ghost use Rattle.type_rules.specs.Branches as rules;

@@ -1,8 +1,8 @@
 //! Statements and blocks.
 ghost use Rattle.rust_ast.specs.Resolved as e;
 ghost use Rattle.rust_ast.specs.Written as w;
-ghost use Rattle.type_check.specs.Gives.{GivesAs, in_stmts};
-ghost use Rattle.type_check.specs.Parts.{operand};
+ghost use Rattle.type_bodies.specs.Gives.{GivesAs, in_stmts};
+ghost use Rattle.type_bodies.specs.Parts.{operand};
 ghost use Rattle.type_rules.specs.Bodies as spec;
 ghost use Rattle.type_rules.specs.Statements as rules;
 ghost use Rattle.type_values.specs.Gives.{Gives};
@@ -32,7 +32,7 @@ use type_values::written::plain_option;
 
 /// A block.
 #[cycle(reading)]
-pub(crate) fn read_block(
+pub fn read_block(
     alloc: Global,
     scope: &Scope,
     block: &Block,

@@ -3,8 +3,8 @@ use Rattle.std.proofs.Common.{◌≡◌, ℕ, ◌+◌, ◌<◌, ◌≤◌, List,
 use Rattle.std.specs.Prelude.{Bool, true, false, ◌||◌, Result, Ok, Err}
 use Rattle.rust_ast.specs.Resolved as e
 use Rattle.rust_ast.specs.Spelled as s
-use Rattle.type_check.specs.Walks.{onward, stmts_before, before_stmts}
-use Rattle.type_check.proofs.Walking.{turn, fails, ends}
+use Rattle.type_bodies.specs.Walks.{onward, stmts_before, before_stmts}
+use Rattle.type_bodies.proofs.Walking.{turn, fails, ends}
 use Rattle.type_rules.specs.Bodies.{read_stmt, read_stmts}
 use Rattle.type_rules.specs.Faults.{Fault}
 use Rattle.type_rules.specs.declared.state.Scope.{Scope}

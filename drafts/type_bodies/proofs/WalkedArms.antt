@@ -6,9 +6,9 @@ use Rattle.rust_ast.specs.Patterns as p
 use Rattle.rust_ast.specs.Resolved as e
 use Rattle.rust_ast.specs.Spelled as s
 use Rattle.rust_ast.specs.SpelledPatterns as q
-use Rattle.type_check.specs.Parts.{arm, operand}
-use Rattle.type_check.specs.Walks.{onward, arms_before, before_arms}
-use Rattle.type_check.proofs.Walking.{turn, fails, ends}
+use Rattle.type_bodies.specs.Parts.{arm, operand}
+use Rattle.type_bodies.specs.Walks.{onward, arms_before, before_arms}
+use Rattle.type_bodies.proofs.Walking.{turn, fails, ends}
 use Rattle.type_rules.specs.Binding.{Bound}
 use Rattle.type_rules.specs.Bodies.{read_arms}
 use Rattle.type_rules.specs.Branches.{Arms, joined, meeting}

@@ -3,9 +3,9 @@ use Rattle.std.proofs.Common.{◌≡◌, ℕ, ◌+◌, ◌<◌, ◌≤◌, List,
 use Rattle.std.specs.Prelude.{Result, Ok, Err, slice_get, unwrap_or}
 use Rattle.rust_ast.specs.Resolved as e
 use Rattle.rust_ast.specs.Spelled as s
-use Rattle.type_check.specs.Parts.{operand}
-use Rattle.type_check.specs.Walks.{onward, values_before, before_values}
-use Rattle.type_check.proofs.Walking.{turn, fails, ends, head_drop, rest_drop}
+use Rattle.type_bodies.specs.Parts.{operand}
+use Rattle.type_bodies.specs.Walks.{onward, values_before, before_values}
+use Rattle.type_bodies.proofs.Walking.{turn, fails, ends, head_drop, rest_drop}
 use Rattle.type_rules.specs.Bodies.{read_all}
 use Rattle.type_rules.specs.Faults.{Fault}
 use Rattle.type_rules.specs.Forms.{Expected, none}

@@ -6,9 +6,9 @@ use Rattle.aen_base.specs.declared.span.Span.{Span}
 use Rattle.core_ty.specs.Types as t
 use Rattle.rust_ast.specs.Resolved as e
 use Rattle.rust_ast.specs.Spelled as s
-use Rattle.type_check.specs.Parts.{operand}
-use Rattle.type_check.specs.Walks.{onward, parts_before, before_arguments, seen_after, inits_seen}
-use Rattle.type_check.proofs.Walking.{turn, fails, ends, head_drop, rest_drop, refuse_through}
+use Rattle.type_bodies.specs.Parts.{operand}
+use Rattle.type_bodies.specs.Walks.{onward, parts_before, before_arguments, seen_after, inits_seen}
+use Rattle.type_bodies.proofs.Walking.{turn, fails, ends, head_drop, rest_drop, refuse_through}
 use Rattle.type_rules.specs.Arguments.{Argument, Arguments, argument}
 use Rattle.type_rules.specs.Bodies.{read_arguments, read_inits}
 use Rattle.type_rules.specs.Constructors.{field_number, is_no_field}

@@ -2,8 +2,8 @@
 ghost use Rattle.std.specs.Prelude.{length, slice_get, unwrap_or};
 ghost use Rattle.rust_ast.specs.Resolved as e;
 ghost use Rattle.rust_ast.specs.Spelled as s;
-ghost use Rattle.type_check.specs.Gives.{GivesAs};
-ghost use Rattle.type_check.specs.Parts.{operand};
+ghost use Rattle.type_bodies.specs.Gives.{GivesAs};
+ghost use Rattle.type_bodies.specs.Parts.{operand};
 ghost use Rattle.type_rules.specs.Bodies as spec;
 ghost use Rattle.type_rules.specs.Forms.{none};
 ghost use Rattle.type_rules.specs.Operands as rules;

@@ -2,15 +2,15 @@
 use Rattle.std.proofs.Common.{◌+◌, drop, ap, sym, ◌∙◌, arith}
 use Rattle.std.specs.Prelude.{◌||◌, false, None, []}
 use Rattle.rust_ast.specs.Resolved as e
-use Rattle.type_check.specs.Walks.{onward, before_stmts, before_values, before_arguments, before_arms}
-use Rattle.type_check.proofs.Items.{expr_item, init_item, arm_item, stmt_item}
-use Rattle.type_check.proofs.WalkedArms.{arms_start, arms_turn}
-use Rattle.type_check.proofs.WalkedParts.{parts_start, arguments_turn}
-use Rattle.type_check.proofs.WalkedStmts.{stmts_start, stmts_turn}
-use Rattle.type_check.proofs.WalkedValues.{values_start, values_turn}
+use Rattle.type_bodies.specs.Walks.{onward, before_stmts, before_values, before_arguments, before_arms}
+use Rattle.type_bodies.proofs.Items.{expr_item, init_item, arm_item, stmt_item}
+use Rattle.type_bodies.proofs.WalkedArms.{arms_start, arms_turn}
+use Rattle.type_bodies.proofs.WalkedParts.{parts_start, arguments_turn}
+use Rattle.type_bodies.proofs.WalkedStmts.{stmts_start, stmts_turn}
+use Rattle.type_bodies.proofs.WalkedValues.{values_start, values_turn}
 use Rattle.type_rules.specs.Bodies.{read_all, read_arguments, read_arms, read_stmts}
 use Rattle.type_rules.specs.Branches.{joined}
-use Rattle.type_check.proofs.+reading.Goals as goal
+use Rattle.type_bodies.proofs.+reading.Goals as goal
 
 pub statements::read_stmts-loop-i-init : goal.statements::read_stmts-loop-i-init
 statements::read_stmts-loop-i-init t c =

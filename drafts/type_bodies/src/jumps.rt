@@ -1,5 +1,5 @@
 //! Loops, and what leaves them or the function.
-ghost use Rattle.type_check.specs.Parts.{operand};
+ghost use Rattle.type_bodies.specs.Parts.{operand};
 ghost use Rattle.type_rules.specs.Bodies as spec;
 ghost use Rattle.type_rules.specs.Loops as rules;
 ghost use Rattle.type_values.specs.Gives.{Gives};

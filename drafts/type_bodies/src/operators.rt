@@ -1,6 +1,6 @@
 //! Operators on values.
 ghost use Rattle.std.specs.Prelude.{◌≡◌, if◌then◌else◌};
-ghost use Rattle.type_check.specs.Parts.{operand};
+ghost use Rattle.type_bodies.specs.Parts.{operand};
 ghost use Rattle.type_forms.specs.Operator.{lazy_form, takes};
 ghost use Rattle.type_rules.specs.Operators as rules;
 ghost use Rattle.type_values.specs.Gives.{Gives};

@@ -1,10 +1,10 @@
 use Rattle.std.proofs.Common.{◌≡◌, ◌+◌, ◌*◌, drop}
 use Rattle.std.specs.Prelude.{None, []}
 use Rattle.rust_ast.specs.Resolved as e
-use Rattle.type_check.specs.Walks.{onward, before_arguments, before_arms, before_stmts, before_values, inits_seen}
+use Rattle.type_bodies.specs.Walks.{onward, before_arguments, before_arms, before_stmts, before_values, inits_seen}
 use Rattle.type_rules.specs.Bodies.{read_all, read_arguments, read_arms, read_inits, read_stmts}
 use Rattle.type_rules.specs.Fields.{fields_of}
-use Rattle.type_check.proofs.+reading.Given as goal
+use Rattle.type_bodies.proofs.+reading.Given as goal
 
 abbrev pub decreases-expressions::read : goal.decreases-expressions::read
 decreases-expressions::read l = 12 * e.nodes_expr l.expr.now

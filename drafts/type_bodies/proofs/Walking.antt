@@ -2,7 +2,7 @@
 use Rattle.std.proofs.Common.{◌≡◌, ℕ, zero, suc, ◌+◌, ◌<◌, ◌≤◌, List, [], ◌∷◌, length, get_or, drop, refl, ap, sym, ◌∙◌, arith}
 use Rattle.std.specs.Prelude.{Bool, true, false, Result, Ok, Err, slice_get}
 use Rattle.aen_base.specs.declared.span.Span.{Span}
-use Rattle.type_check.specs.Walks.{onward}
+use Rattle.type_bodies.specs.Walks.{onward}
 use Rattle.type_rules.specs.Faults.{Fault, and_then, refuse}
 use Rattle.type_rules.specs.Lists.{head_of, rest_of}
 use Rattle.type_rules.specs.declared.fault.KindOfFault.{KindOfFault}
