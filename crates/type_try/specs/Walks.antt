@@ -1,6 +1,5 @@
 -- What was read of a list, before what is left of it.
-use Rattle.std.specs.Prelude.{Bool, ℕ, ◌||◌, List, [], ◌∷◌, ◌++◌, Result, Ok, Err}
-use Rattle.rust_ast.specs.declared.spelling.Function as spelled
+use Rattle.std.specs.Prelude.{Bool, ℕ, ◌||◌, List, [], ◌∷◌, Result, Ok, Err}
 use Rattle.rust_ast.specs.Spelled as s
 use Rattle.rust_ast.specs.SpelledPatterns as q
 use Rattle.type_rules.specs.Arguments.{Arguments}
@@ -47,6 +46,3 @@ seen_after (v ∷ vs) seen = seen_after vs (v.0 ∷ seen)
 
 abbrev pub inits_seen : List (ℕ × s.Val) → List ℕ
 inits_seen vs = seen_after vs []
-
-abbrev pub before_functions : List spelled.Function → List spelled.Function → List spelled.Function
-before_functions d fs = d ++ fs

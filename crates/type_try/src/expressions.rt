@@ -6,7 +6,7 @@ ghost use Rattle.type_values.specs.Gives.{Gives};
 
 use crate::branches::{Branch, read_branch};
 use crate::operators::{
-    pair, read_binary, read_cast, read_compare, read_lazy, read_minus, read_negation,
+    pair_of, read_binary, read_cast, read_compare, read_lazy, read_minus, read_negation,
 };
 use crate::statements::read_block;
 use rust_ast::resolved::{Expr, ExprNode};
@@ -67,19 +67,19 @@ pub(crate) fn read(
             read_negation(alloc, scope, *span, operand.get(), expected, state)
         }
         ExprNode::Binary(span, op, left, right) => {
-            let pair = pair(*span, left.get(), right.get());
+            let pair = pair_of(*span, left.get(), right.get());
             read_binary(alloc, scope, op, &pair, expected, state)
         }
         ExprNode::Compare(span, op, left, right) => {
-            let pair = pair(*span, left.get(), right.get());
+            let pair = pair_of(*span, left.get(), right.get());
             read_compare(alloc, scope, op, &pair, state)
         }
         ExprNode::Both(span, left, right) => {
-            let pair = pair(*span, left.get(), right.get());
+            let pair = pair_of(*span, left.get(), right.get());
             read_lazy(alloc, scope, true, &pair, state)
         }
         ExprNode::Either(span, left, right) => {
-            let pair = pair(*span, left.get(), right.get());
+            let pair = pair_of(*span, left.get(), right.get());
             read_lazy(alloc, scope, false, &pair, state)
         }
         ExprNode::Cast(span, operand, to) => {
@@ -91,7 +91,7 @@ pub(crate) fn read(
 
 /// An expression as a value.
 #[cycle(reading)]
-pub fn read_value(
+pub(crate) fn read_value(
     alloc: Global,
     scope: &Scope,
     expr: &Expr,

@@ -10,4 +10,4 @@ mod expressions;
 mod operators;
 mod statements;
 
-pub use expressions::read_value;
+pub use statements::read_block;

@@ -32,7 +32,7 @@ pub(crate) struct Pair<'a> {
 }
 
 /// Two operands with the span of the whole.
-pub(crate) fn pair<'a>(span: Span, left: &'a Expr, right: &'a Expr) -> Pair<'a>
+pub(crate) fn pair_of<'a>(span: Span, left: &'a Expr, right: &'a Expr) -> Pair<'a>
     ensures span { result.span ≡ span }
     ensures left { result.left.now ≡ left.now }
     ensures right { result.right.now ≡ right.now }

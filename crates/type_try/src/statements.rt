@@ -32,7 +32,7 @@ use type_values::written::plain_option;
 
 /// A block.
 #[cycle(reading)]
-pub(crate) fn read_block(
+pub fn read_block(
     alloc: Global,
     scope: &Scope,
     block: &Block,

@@ -1,3 +1,4 @@
+pub mod Calls
 pub mod Failing
 pub mod Items
 pub mod WalkedArms

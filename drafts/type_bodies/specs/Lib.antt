@@ -1,3 +1,4 @@
+pub mod Calling
 pub mod Gives
 pub mod Parts
 pub mod Walks

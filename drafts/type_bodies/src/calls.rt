@@ -8,6 +8,7 @@ ghost use Rattle.type_rules.specs.Bodies as spec;
 ghost use Rattle.type_rules.specs.Fields as fields;
 ghost use Rattle.type_values.specs.Gives.{Gives};
 
+use crate::calling::{Site, close_call, open_call};
 use crate::expressions::read;
 use aen_base::{List, Name, Span, TypeId};
 use core_ty::Ty;
@@ -16,8 +17,7 @@ use rust_ast::spelled::Val;
 use rust_ast::written::Turbos;
 use std::alloc::Global;
 use type_calls::arguments::{argument_expected, argument_value};
-use type_calls::callees::callee_of;
-use type_calls::calls::{Arguments, Begun, Whole, begin, finish};
+use type_calls::calls::Arguments;
 use type_forms::constructors::{field_of_init, number_of, param_at};
 use type_forms::spans::span_of;
 use type_rules::forms::{Expected, Raw};
@@ -62,7 +62,6 @@ pub(crate) fn read_call(
 
 /// A call with these lists of type arguments.
 #[cycle(reading)]
-#[tactic(auto, unfolding(type_rules::specs::Calls::call_rule))]
 fn read_called(
     alloc: Global,
     scope: &Scope,
@@ -73,30 +72,16 @@ fn read_called(
 ) -> Result<Raw, TypeFault>
     ensures { Gives (called scope.now call.now.span call.now.callee.now (e.exprs call.now.arguments.now) lists.now expected.now state.old) result state.new }
 {
-    let callee = callee_of(alloc, scope, call.callee)?;
-    let Begun {
-        mut finds,
-        nested,
-        wrong,
-    } = begin(alloc, &callee, lists, expected)?;
-    let params = callee.params.as_slice();
+    let (opened, mut finds) = open_call(alloc, scope, call.callee, lists, expected)?;
+    let params = opened.callee.params.as_slice();
     let parts = read_arguments(alloc, scope, call.arguments, params, &mut finds, state)?;
-    let whole = Whole {
+    let site = Site {
         span: call.span,
-        nested,
-        wrong,
+        called: call.callee,
         braces: false,
     };
     let arguments = Arguments { parts, finds };
-    finish(
-        alloc,
-        whole,
-        call.callee,
-        &callee,
-        expected,
-        arguments,
-        state,
-    )
+    close_call(alloc, &site, &opened, expected, arguments, state)
 }
 
 /// A constructor in braces: the lists of type arguments first.
@@ -116,7 +101,6 @@ pub(crate) fn read_braces(
 
 /// A constructor in braces with these lists of type arguments.
 #[cycle(reading)]
-#[tactic(auto, unfolding(type_rules::specs::Calls::call_rule))]
 fn read_constructed(
     alloc: Global,
     scope: &Scope,
@@ -129,21 +113,15 @@ fn read_constructed(
 {
     let node = CalleeNode::Constructor(braces.decl, braces.variant);
     let called = Callee { node };
-    let callee = callee_of(alloc, scope, &called)?;
-    let Begun {
-        mut finds,
-        nested,
-        wrong,
-    } = begin(alloc, &callee, lists, expected)?;
+    let (opened, mut finds) = open_call(alloc, scope, &called, lists, expected)?;
     let parts = read_inits(alloc, scope, braces, &mut finds, state)?;
-    let whole = Whole {
+    let site = Site {
         span: braces.span,
-        nested,
-        wrong,
+        called: &called,
         braces: true,
     };
     let arguments = Arguments { parts, finds };
-    finish(alloc, whole, &called, &callee, expected, arguments, state)
+    close_call(alloc, &site, &opened, expected, arguments, state)
 }
 
 /// An argument with the type of its parameter, if it has one, and what is found by it.

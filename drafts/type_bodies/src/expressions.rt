@@ -13,7 +13,7 @@ use crate::branches::{Branch, Select, read_branch, read_select};
 use crate::calls::{Braces, Call, read_braces, read_call};
 use crate::jumps::{Forever, read_forever, read_give, read_leave};
 use crate::operators::{
-    pair, read_binary, read_cast, read_compare, read_lazy, read_minus, read_negation,
+    pair_of, read_binary, read_cast, read_compare, read_lazy, read_minus, read_negation,
 };
 use crate::places::{FieldAccess, read_assign, read_borrow, read_deref, read_field, read_update};
 use crate::statements::read_block;
@@ -130,30 +130,30 @@ pub(crate) fn read(
             read_borrow(alloc, scope, *span, *mutable, operand.get(), state)
         }
         ExprNode::Binary(span, op, left, right) => {
-            let pair = pair(*span, left.get(), right.get());
+            let pair = pair_of(*span, left.get(), right.get());
             read_binary(alloc, scope, op, &pair, expected, state)
         }
         ExprNode::Compare(span, op, left, right) => {
-            let pair = pair(*span, left.get(), right.get());
+            let pair = pair_of(*span, left.get(), right.get());
             read_compare(alloc, scope, op, &pair, state)
         }
         ExprNode::Both(span, left, right) => {
-            let pair = pair(*span, left.get(), right.get());
+            let pair = pair_of(*span, left.get(), right.get());
             read_lazy(alloc, scope, true, &pair, state)
         }
         ExprNode::Either(span, left, right) => {
-            let pair = pair(*span, left.get(), right.get());
+            let pair = pair_of(*span, left.get(), right.get());
             read_lazy(alloc, scope, false, &pair, state)
         }
         ExprNode::Cast(span, operand, to) => {
             read_cast(alloc, scope, *span, operand.get(), to, state)
         }
         ExprNode::Assign(span, left, right) => {
-            let pair = pair(*span, left.get(), right.get());
+            let pair = pair_of(*span, left.get(), right.get());
             read_assign(alloc, scope, &pair, state)
         }
         ExprNode::Update(span, op, left, right) => {
-            let pair = pair(*span, left.get(), right.get());
+            let pair = pair_of(*span, left.get(), right.get());
             read_update(alloc, scope, op, &pair, state)
         }
         ExprNode::Give(span, None) => give_nothing(alloc, scope, *span, expected, state),

@@ -6,6 +6,7 @@
 
 mod binding;
 mod branches;
+mod calling;
 mod calls;
 mod expressions;
 mod jumps;
