@@ -1,5 +1,5 @@
 -- The innermost loop, as a `break` sees it.
-use Rattle.std.specs.Prelude.{◌≡◌, Bool, ℕ, if◌then◌else◌, List, [], ◌∷◌}
+use Rattle.std.specs.Prelude.{◌≡◌, Bool, ℕ, if◌then◌else◌, List, ◌∷◌}
 use Rattle.type_forms.specs.declared.loops.Break.{Break}
 use Rattle.type_rules.specs.Expecting.{or_unit}
 use Rattle.type_rules.specs.Forms.{Expected, none}

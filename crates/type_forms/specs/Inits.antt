@@ -1,6 +1,6 @@
 -- Which field a named argument has.
 use Rattle.std.specs.List.{list_any}
-use Rattle.std.specs.Prelude.{Bool, ℕ, ◌==◌, Result, Ok, Option, List, [], map, option_map}
+use Rattle.std.specs.Prelude.{Bool, ℕ, ◌==◌, Result, Ok, Option, List, map, option_map}
 use Rattle.aen_base.specs.declared.span.Span.{Span}
 use Rattle.type_rules.specs.Constructors.{field_number, is_no_field}
 use Rattle.type_rules.specs.Faults.{Fault, refuse}

@@ -7,7 +7,6 @@ use Rattle.type_rules.specs.Binding.{Met}
 use Rattle.type_rules.specs.Bodies.{part, read, read_arms}
 use Rattle.type_rules.specs.Branches.{Arms, joined, meeting, patterns_of, scrutinee_type}
 use Rattle.type_rules.specs.Expecting.{for_arm}
-use Rattle.type_rules.specs.Faults.{and_then}
 use Rattle.type_rules.specs.Forms.{Expected}
 use Rattle.type_rules.specs.Operands.{value_of}
 use Rattle.type_rules.specs.Patterns.{pattern}

@@ -1,13 +1,12 @@
 -- What suits a type suits each that is the same but for regions.
-use Rattle.std.proofs.Common.{◌≡◌, ℕ, List, [], ◌∷◌, refl, sym, ◌∙◌, subst}
+use Rattle.std.proofs.Common.{◌≡◌, ℕ, List, refl, sym, ◌∙◌, subst}
 use Rattle.std.proofs.lemmas.Bool.{and_parts, eqb-true}
-use Rattle.std.specs.Prelude.{Bool, true, false, ◌&&◌, ◌==◌, Option, Some, None, option_map, slice_get}
+use Rattle.std.specs.Prelude.{true, false, ◌==◌, Option, Some, None, option_map, slice_get}
 use Rattle.core_ty.specs.Substitution.{substitute}
 use Rattle.core_ty.specs.declared.decl.TypeDecl.{TypeDecl}
 use Rattle.type_cover.specs.Suits.{AllSuit, FieldsSuit, Suits}
 use Rattle.type_rules.specs.Fields.{fields_of}
 use Rattle.type_rules.specs.FitsPatterns.{IsDeclared, IsTuple, arguments_of, pat_count, tuple_parts}
-use Rattle.type_rules.specs.Frames.{field_at}
 use Rattle.type_rules.specs.Skeletons.{content}
 use Rattle.type_rules.specs.TypeFacts.{same, same_all}
 use Rattle.type_suits.specs.Sames.{as_tuple, as_unit, count_same, put_in_same}

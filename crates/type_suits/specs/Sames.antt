@@ -1,6 +1,6 @@
 -- Types that are one but for regions.
-use Rattle.std.proofs.Common.{◌≡◌, ℕ, zero, suc, List, [], ◌∷◌, refl, ap, sym, ◌∙◌}
-use Rattle.std.specs.Prelude.{Bool, true, false, ◌&&◌, ◌==◌, slice_get, unwrap_or}
+use Rattle.std.proofs.Common.{◌≡◌, ℕ, zero, suc, List, [], ◌∷◌, refl, ap}
+use Rattle.std.specs.Prelude.{true, false, ◌==◌, slice_get, unwrap_or}
 use Rattle.std.proofs.lemmas.Bool.{and_parts, and_from, eq-eqb}
 use Rattle.aen_base.specs.declared.int_ty.IntTy.{IntTy}
 use Rattle.aen_base.specs.declared.int_ty.IntTy.TheVariants.{U8, U16, U32, U64, U128, Usize, I8, I16, I32, I64, I128, Isize}

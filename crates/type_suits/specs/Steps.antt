@@ -1,15 +1,15 @@
 -- What an answer without fault tells of its steps.
-use Rattle.std.proofs.Common.{◌≡◌, ℕ, zero, suc, ◌+◌, List, [], ◌∷◌, length, refl, ap, sym, ◌∙◌, subst, arith}
+use Rattle.std.proofs.Common.{◌≡◌, ℕ, suc, ◌+◌, List, [], ◌∷◌, length, refl, ap, sym, ◌∙◌, subst, arith}
 use Rattle.std.proofs.lemmas.Bool.{eqb-true}
 use Rattle.std.specs.Prelude.{Bool, true, false, not, ◌==◌, if◌then◌else◌, Result, Ok, Err, Option, Some, None, bytes_eq, slice_get, slice_set}
 use Rattle.aen_base.specs.declared.span.Span.{Span}
 use Rattle.core_ty.specs.Shape.{is_copy}
 use Rattle.core_ty.specs.Types as t
 use Rattle.rust_ast.specs.SpelledPatterns as q
-use Rattle.type_rules.specs.Binding.{Met, bound, bound_as, referred, taken}
+use Rattle.type_rules.specs.Binding.{Met, bound, bound_as, taken}
 use Rattle.type_rules.specs.Constructors.{is_no_tuple, put_in_fields, tuple_types}
 use Rattle.type_rules.specs.Faults.{Fault, and_then, limited, refuse}
-use Rattle.type_rules.specs.Fields.{Part, field_named}
+use Rattle.type_rules.specs.Fields.{field_named}
 use Rattle.type_rules.specs.FitsPatterns.{IsTuple, tuple_parts}
 use Rattle.type_rules.specs.TypeFacts.{count, is_large, no_region}
 use Rattle.type_rules.specs.declared.fault.KindOfFault.{KindOfFault}

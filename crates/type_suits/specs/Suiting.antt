@@ -1,5 +1,5 @@
 -- What typing gives for a pattern suits the type that it meets.
-use Rattle.std.proofs.Common.{◌≡◌, ℕ, zero, suc, ◌+◌, ◌<◌, List, [], ◌∷◌, length, refl, ap, sym, ◌∙◌, subst, arith}
+use Rattle.std.proofs.Common.{◌≡◌, ℕ, suc, ◌+◌, ◌<◌, List, [], ◌∷◌, length, refl, ap, sym, ◌∙◌, subst, arith}
 use Rattle.std.proofs.lemmas.Bool.{and_from, and_parts, eq-eqb, eqb-true, ne_eqb, or_parts}
 use Rattle.std.specs.List.{list_any}
 use Rattle.std.specs.Prelude.{Bool, true, false, not, ◌==◌, ◌&&◌, ◌||◌, if◌then◌else◌, Result, Ok, Option, Some, None, nat_lt, option_map, slice_get}
@@ -13,8 +13,8 @@ use Rattle.type_rules.specs.Constructors.{constructor_arguments, field_number, f
 use Rattle.type_rules.specs.Faults.{Fault, and_then, refuse}
 use Rattle.type_rules.specs.Fields.{Part, field_named, fields_of, parameters_of}
 use Rattle.type_rules.specs.FitsCalls.{are_distinct}
-use Rattle.type_rules.specs.FitsPatterns.{IsDeclared, IsTuple, arguments_of, field_numbers, pat_count, tuple_parts}
-use Rattle.type_rules.specs.Lists.{head_of, or_else, rest_of}
+use Rattle.type_rules.specs.FitsPatterns.{IsDeclared, IsTuple, arguments_of, field_numbers, pat_count}
+use Rattle.type_rules.specs.Lists.{or_else}
 use Rattle.type_rules.specs.Literals.{literal}
 use Rattle.type_rules.specs.Patterns.{field_patterns, fieldpats_length, numbered_pats, pattern, patterns, source_length}
 use Rattle.type_rules.specs.TypesInBodies.{arguments_lists}
@@ -114,9 +114,10 @@ numbered_suit : (ds : List TypeDecl) (d v : ℕ) (args : List t.Ty) (ps : q.Pats
 numbered_suit ds d v args q.no_pats gs k at h = tt
 numbered_suit ds d v args (q.more_pats x xs) [] k at h = absurd h
 numbered_suit ds d v args (q.more_pats x xs) (g ∷ gs) k at h =
-    let here : slice_get (fields_of ds d v) k ≡ Some g = ap (slice_get (fields_of ds d v)) (omega arith) ∙ at 0 in
-    (subst (Suits ds x) (ap (option_map (λ (f : List ℕ × t.Ty). substitute args f.1)) (sym here)) h.0,
-    numbered_suit ds d v args xs gs (k + 1) (λ i. ap (slice_get (fields_of ds d v)) (omega arith) ∙ at (suc i)) h.1)
+    let here : slice_get (fields_of ds d v) k ≡ Some g = ap (slice_get (fields_of ds d v)) (omega arith) ∙ at 0 in (
+      subst (Suits ds x) (ap (option_map (λ (f : List ℕ × t.Ty). substitute args f.1)) (sym here)) h.0,
+      numbered_suit ds d v args xs gs (k + 1) (λ i. ap (slice_get (fields_of ds d v)) (omega arith) ∙ at (suc i)) h.1,
+    )
 
 later : (k n : ℕ) (xs : q.Pats) → k < n → list_any (λ j. j == k) (field_numbers (numbered_pats n xs)) ≡ false
 later k n q.no_pats h = refl
@@ -141,14 +142,14 @@ construct_good ds s d v ls xs ts g m x r e h =
     let o = constructor_arguments ds d.0 ls (Some x) in
     let wrong = is_wrong_list (parameters_of ds d.0) ls in
     let w = passed (patterns ds xs (put_in_fields o fs) m ts) (λ y.
-        refuse (is_other_declared d.0 o (Some x)) s Mismatch (
-        refuse (wrong || not (source_length xs == length fs)) s Arity (
-        Ok (q.construct d v (numbered_pats 0 y.0), y.1)))) r (subst (λ y. construct_of ds s d v ls xs ts m y ≡ Ok r) e h) in
+    refuse (is_other_declared d.0 o (Some x)) s Mismatch (
+    refuse (wrong || not (source_length xs == length fs)) s Arity (
+    Ok (q.construct d v (numbered_pats 0 y.0), y.1)))) r (subst (λ y. construct_of ds s d v ls xs ts m y ≡ Ok r) e h) in
     let u = unrefused (is_other_declared d.0 o (Some x)) s Mismatch _ r w.1.1 in
     let v1 = unrefused (wrong || not (source_length xs == length fs)) s Arity (Ok (q.construct d v (numbered_pats 0 w.0.0), w.0.1)) r u.1 in
     let long : source_length xs ≡ length fs = eqb-true (source_length xs) (length fs) (not_false (source_length xs == length fs) (or_parts wrong (not (source_length xs == length fs)) v1.0).1) in
     let parts = λ (args : List t.Ty) (q : o ≡ Some args).
-        numbered_suit ds d.0 v args w.0.0 fs 0 (λ i. ap (slice_get fs) (omega arith)) (g (put_in_fields (Some args) fs) m ts w.0 (long ∙ sym (put_length args fs)) (subst (λ z. patterns ds xs (put_in_fields z fs) m ts ≡ Ok w.0) q w.1.0)).1 in
+    numbered_suit ds d.0 v args w.0.0 fs 0 (λ i. ap (slice_get fs) (omega arith)) (g (put_in_fields (Some args) fs) m ts w.0 (long ∙ sym (put_length args fs)) (subst (λ z. patterns ds xs (put_in_fields z fs) m ts ≡ Ok w.0) q w.1.0)).1 in
     let met = declared_suits ds d.0 v (numbered_pats 0 w.0.0) _ _ x o refl u.0 parts in
     subst (λ z. Suits ds z (Some x)) (ap (λ z. z.0) (ok_is v1.1)) (met.0, numbered_apart 0 w.0.0, met.1)
 
@@ -177,10 +178,10 @@ literal_good ds s d v ls xs ts g m x r e h =
     let o = constructor_arguments ds d.0 ls (Some x) in
     let wrong = is_wrong_list (parameters_of ds d.0) ls in
     let w = passed (field_patterns ds xs fs o [] m ts) (λ y.
-        refuse (is_other_declared d.0 o (Some x)) s Mismatch (
-        refuse wrong s Arity (
-        refuse (nat_lt (fieldpats_length y.0) (length fs)) s Field (
-        Ok (q.construct d v y.0, y.1))))) r (subst (λ y. literal_of ds s d v ls xs ts m y ≡ Ok r) e h) in
+    refuse (is_other_declared d.0 o (Some x)) s Mismatch (
+    refuse wrong s Arity (
+    refuse (nat_lt (fieldpats_length y.0) (length fs)) s Field (
+    Ok (q.construct d v y.0, y.1))))) r (subst (λ y. literal_of ds s d v ls xs ts m y ≡ Ok r) e h) in
     let u = unrefused (is_other_declared d.0 o (Some x)) s Mismatch _ r w.1.1 in
     let v1 = unrefused wrong s Arity _ r u.1 in
     let v2 = unrefused (nat_lt (fieldpats_length w.0.0) (length fs)) s Field (Ok (q.construct d v w.0.0, w.0.1)) r v1.1 in
@@ -197,11 +198,12 @@ seen_more false c h = h
 
 -- one more, which was not seen
 one_apart : (n : ℕ) (seen ks : List ℕ) → list_any (λ k. k == n) seen ≡ false → Apart (n ∷ seen) ks → Apart seen (n ∷ ks)
-one_apart n seen ks off h =
-    (and_from _ _ (ap not (h.1 n (ap (λ b. b || list_any (λ k. k == n) seen) (eq-eqb n n refl)))) h.0,
-    λ j is.
-    let differs : (n == j) ≡ false = ne_eqb n j (λ e. absurd (true_false (sym is ∙ ap (λ z. list_any (λ k. k == z) seen) (sym e) ∙ off))) in
-    ap (λ b. b || list_any (λ k. k == j) ks) differs ∙ h.1 j (seen_more (n == j) (list_any (λ k. k == j) seen) is))
+one_apart n seen ks off h = (
+  and_from _ _ (ap not (h.1 n (ap (λ b. b || list_any (λ k. k == n) seen) (eq-eqb n n refl)))) h.0,
+  λ j is.
+      let differs : (n == j) ≡ false = ne_eqb n j (λ e. absurd (true_false (sym is ∙ ap (λ z. list_any (λ k. k == z) seen) (sym e) ∙ off))) in
+      ap (λ b. b || list_any (λ k. k == j) ks) differs ∙ h.1 j (seen_more (n == j) (list_any (λ k. k == j) seen) is),
+)
   where
     true_false : true ≡ false → ⊥
     true_false h = absurd cc
@@ -227,12 +229,14 @@ field_good ds s name x rest good all d v args seen m ts r (Some f) named h =
     let more = all d v args (f.0 ∷ seen) m w.0.1 l.0 l.1.0 in
     let is : q.more_fieldpats f.0 w.0.0 l.0.0 ≡ r.0 = ap (λ z. z.0) (ok_is l.1.1) in
     let place = placed name 0 (fields_of ds d v) f named in
-    let there : slice_get (fields_of ds d v) f.0 ≡ Some (place.name, f.1) = ap (slice_get (fields_of ds d v)) (place.number ∙ omega arith) ∙ place.there in
-    (subst (λ z. Apart seen (field_numbers z)) is (one_apart f.0 seen (field_numbers l.0.0) u.0 more.0),
-    λ given e. subst (FieldsSuit ds d v given) is (
+    let there : slice_get (fields_of ds d v) f.0 ≡ Some (place.name, f.1) = ap (slice_get (fields_of ds d v)) (place.number ∙ omega arith) ∙ place.there in (
+      subst (λ z. Apart seen (field_numbers z)) is (one_apart f.0 seen (field_numbers l.0.0) u.0 more.0),
+      λ given e. subst (FieldsSuit ds d v given) is (
         subst (Suits ds w.0.0) (ap (option_map (λ (y : List ℕ × t.Ty). substitute given y.1)) (sym there))
-        (good ts (inside m (field_type args (Some f))) (substitute given f.1) w.0 (ap (λ z. field_type z (Some f)) e) w.1.0),
-        more.1 given e))
+            (good ts (inside m (field_type args (Some f))) (substitute given f.1) w.0 (ap (λ z. field_type z (Some f)) e) w.1.0),
+        more.1 given e,
+      ),
+    )
 
 -- ---- the recursion
 

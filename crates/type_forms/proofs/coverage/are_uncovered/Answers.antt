@@ -12,7 +12,7 @@ is_covered-requires c =
     let all = taken_are c.as_slice-2.result.now c.loop-arm.patterns c.args.arms.now c.loop-arm.arm-index c.as_slice-2.ensures c.loop-arm.invariant c.loop-arm-test.false in
     let seen = map (λ (p : Bor q.Pat). p.now) c.as_slice-2.result.now in
     record {
-        suit = subst (λ ds. PatternsSuit ds seen c.args.ty.now) (sym c.as_slice.ensures) (subst (λ ps. PatternsSuit c.args.decls.now ps c.args.ty.now) (sym all) c.requires.suit);
+      suit = subst (λ ds. PatternsSuit ds seen c.args.ty.now) (sym c.as_slice.ensures) (subst (λ ps. PatternsSuit c.args.decls.now ps c.args.ty.now) (sym all) c.requires.suit);
     }
 
 pub returns : goal.returns

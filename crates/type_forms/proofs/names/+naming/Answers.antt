@@ -1,5 +1,5 @@
-use Rattle.std.proofs.Common.{◌++◌, ap, sym, ◌∙◌, arith}
-use Rattle.type_forms.proofs.Naming.{pat_item, field_item, names_turn, field_names_turn}
+use Rattle.std.proofs.Common.{arith}
+use Rattle.type_forms.proofs.Naming.{pat_item, field_item}
 use Rattle.type_forms.proofs.names.+naming.Goals as goal
 
 pub put_all-put_names-requires : goal.put_all-put_names-requires

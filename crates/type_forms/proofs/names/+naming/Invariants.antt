@@ -1,4 +1,4 @@
-use Rattle.std.proofs.Common.{◌≡◌, ◌*◌, ◌+◌, ◌++◌, drop}
+use Rattle.std.proofs.Common.{◌≡◌, ◌+◌, ◌++◌, drop}
 use Rattle.rust_ast.specs.SpelledPatterns as q
 use Rattle.type_rules.specs.Patterns.{names_in_all, names_in_fields}
 use Rattle.type_forms.proofs.names.+naming.Given as goal
