@@ -1,4 +1,5 @@
 pub mod Failing
+pub mod Forms
 pub mod Items
 pub mod Walking
 pub mod WalkedStmts

@@ -12,16 +12,14 @@ ghost use Rattle.type_values.specs.Gives.{Gives};
 use crate::binding::bound_at;
 use crate::expressions::{read, read_value};
 use crate::statements::read_block;
-use aen_base::{List, Span};
+use aen_base::{Boxed, List, Span};
 use core_ty::Ty;
 use rust_ast::patterns;
 use rust_ast::resolved::{Block, Expr};
 use rust_ast::spelled::{Scrutinee, Val};
 use rust_ast::spelled_patterns::Pat;
 use std::alloc::Global;
-use type_forms::branches::{
-    block_value, branch, joined, scrutinee_of, scrutinee_type, select,
-};
+use type_forms::branches::{block_value, branch, joined, scrutinee_of, scrutinee_type, select};
 use type_forms::coverage::are_uncovered;
 use type_forms::operands::{bool_hint, nothing};
 use type_forms::spans::span_of;
@@ -35,9 +33,9 @@ use type_values::values::{gives, is_endless, raw_type};
 #[derive(Drop)]
 pub(crate) struct Branch<'a> {
     pub(crate) span: Span,
-    pub(crate) condition: &'a Expr,
-    pub(crate) yes: &'a Block,
-    pub(crate) no: &'a Expr,
+    pub(crate) condition: &'a Boxed<Expr>,
+    pub(crate) yes: &'a Boxed<Block>,
+    pub(crate) no: &'a Boxed<Expr>,
 }
 
 /// What a `match` or a `let` looks at.
@@ -61,7 +59,7 @@ pub(crate) fn read_scrutinee(
 
 /// `if`.
 #[cycle(reading)]
-#[tactic(auto, unfolding(type_rules::specs::Branches::branch_rule))]
+#[tactic(auto, using(crate::proofs::Forms::branch_gives, crate::proofs::Forms::branch_fails))]
 pub(crate) fn read_branch(
     alloc: Global,
     scope: &Scope,
@@ -71,7 +69,7 @@ pub(crate) fn read_branch(
 ) -> Result<Raw, TypeFault>
     ensures { Gives (rules.branch_rule parts.now.span (operand scope.now parts.now.condition.now) (spec.read_block scope.now parts.now.yes.now) (operand scope.now parts.now.no.now) expected.now state.old) result state.new }
 {
-    let condition = read_scrutinee(alloc, scope, parts.condition, &bool_hint(), state)?;
+    let condition = read_scrutinee(alloc, scope, parts.condition.get(), &bool_hint(), state)?;
     let arms = read_sides(alloc, scope, parts, expected, state)?;
     branch(alloc, parts.span, expected, condition, arms, state)
 }
@@ -88,9 +86,9 @@ fn read_sides(
     ensures { Gives (yes_and_no scope.now parts.now.yes.now parts.now.no.now expected.now state.old) result state.new }
 {
     let wanted = for_arm(alloc, expected, None)?;
-    let yes = read_block(alloc, scope, parts.yes, &wanted, state)?;
+    let yes = read_block(alloc, scope, parts.yes.get(), &wanted, state)?;
     let yes = block_value(alloc, yes)?;
-    let no = read_other(alloc, scope, parts.no, &yes, expected, state)?;
+    let no = read_other(alloc, scope, parts.no.get(), &yes, expected, state)?;
     Ok((yes, no))
 }
 

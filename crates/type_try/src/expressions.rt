@@ -6,16 +6,14 @@ ghost use Rattle.type_values.specs.Gives.{Gives};
 
 use crate::branches::{Branch, read_branch};
 use crate::operators::{
-    pair_of, read_binary, read_cast, read_compare, read_lazy, read_minus, read_negation,
+    Pair, read_binary, read_cast, read_compare, read_lazy, read_minus, read_negation,
 };
 use crate::statements::read_block;
 use rust_ast::resolved::{Expr, ExprNode};
 use rust_ast::spelled::Val;
 use std::alloc::Global;
 use type_forms::branches::block_value;
-use type_forms::operands::{
-    Digits, held, number, panics, truth, variable,
-};
+use type_forms::operands::{Digits, held, number, panics, truth, variable};
 use type_forms::spans::span_of;
 use type_rules::forms::{Expected, Raw};
 use type_rules::{Scope, State};
@@ -25,6 +23,7 @@ use type_values::written_out::as_value;
 
 /// An expression as it stands.
 #[cycle(reading)]
+#[tactic(auto, unfolding(type_rules::specs::Operands::variable_rule))]
 pub(crate) fn read(
     alloc: Global,
     scope: &Scope,
@@ -52,9 +51,9 @@ pub(crate) fn read(
         ExprNode::Branch(span, condition, yes, no) => {
             let parts = Branch {
                 span: *span,
-                condition: condition.get(),
-                yes: yes.get(),
-                no: no.get(),
+                condition,
+                yes,
+                no,
             };
             read_branch(alloc, scope, &parts, expected, state)
         }
@@ -67,19 +66,35 @@ pub(crate) fn read(
             read_negation(alloc, scope, *span, operand.get(), expected, state)
         }
         ExprNode::Binary(span, op, left, right) => {
-            let pair = pair_of(*span, left.get(), right.get());
+            let pair = Pair {
+                span: *span,
+                left,
+                right,
+            };
             read_binary(alloc, scope, op, &pair, expected, state)
         }
         ExprNode::Compare(span, op, left, right) => {
-            let pair = pair_of(*span, left.get(), right.get());
+            let pair = Pair {
+                span: *span,
+                left,
+                right,
+            };
             read_compare(alloc, scope, op, &pair, state)
         }
         ExprNode::Both(span, left, right) => {
-            let pair = pair_of(*span, left.get(), right.get());
+            let pair = Pair {
+                span: *span,
+                left,
+                right,
+            };
             read_lazy(alloc, scope, true, &pair, state)
         }
         ExprNode::Either(span, left, right) => {
-            let pair = pair_of(*span, left.get(), right.get());
+            let pair = Pair {
+                span: *span,
+                left,
+                right,
+            };
             read_lazy(alloc, scope, false, &pair, state)
         }
         ExprNode::Cast(span, operand, to) => {

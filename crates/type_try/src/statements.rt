@@ -10,7 +10,7 @@ ghost use Rattle.type_values.specs.Gives.{Gives};
 use crate::binding::{bound_as, bound_at, let_nothing};
 use crate::branches::read_scrutinee;
 use crate::expressions::read_value;
-use aen_base::{List, Span};
+use aen_base::{Boxed, List, Span};
 use core_ty::Ty;
 use rust_ast::patterns::Pat;
 use rust_ast::resolved::{Block, BlockNode, Expr, Stmt, StmtNode};
@@ -43,14 +43,13 @@ pub fn read_block(
 {
     match &block.node {
         BlockNode::Block(span, stmts, None) => {
-            let stmts = stmts.as_slice();
             read_block_without(alloc, scope, *span, stmts, expected, state)
         }
         BlockNode::Block(span, stmts, Some(last)) => {
             let parts = WithLast {
                 span: *span,
-                stmts: stmts.as_slice(),
-                last: last.get(),
+                stmts,
+                last,
             };
             read_block_with(alloc, scope, &parts, expected, state)
         }
@@ -61,8 +60,8 @@ pub fn read_block(
 #[derive(Drop)]
 struct WithLast<'a> {
     span: Span,
-    stmts: &'a [Stmt],
-    last: &'a Expr,
+    stmts: &'a List<Stmt>,
+    last: &'a Boxed<Expr>,
 }
 
 /// A block with a last expression, whose type it has.
@@ -77,8 +76,8 @@ fn read_block_with(
 ) -> Result<spelled::Block, TypeFault>
     ensures { Gives (rules.block_with parts.now.span (spec.read_stmts scope.now (e.stmts parts.now.stmts.now)) (operand scope.now parts.now.last.now) expected.now state.old) result state.new }
 {
-    let (stmts, _stops) = read_stmts(alloc, scope, parts.stmts, state)?;
-    let last = read_value(alloc, scope, parts.last, expected, state)?;
+    let (stmts, _stops) = read_stmts(alloc, scope, parts.stmts.as_slice(), state)?;
+    let last = read_value(alloc, scope, parts.last.get(), expected, state)?;
     Ok(block_with(alloc, parts.span, stmts, last)?)
 }
 
@@ -89,13 +88,13 @@ fn read_block_without(
     alloc: Global,
     scope: &Scope,
     span: Span,
-    stmts: &[Stmt],
+    stmts: &List<Stmt>,
     expected: &Expected,
     state: &mut State,
 ) -> Result<spelled::Block, TypeFault>
     ensures { Gives (rules.block_without span (spec.read_stmts scope.now (e.stmts stmts.now)) expected.now state.old) result state.new }
 {
-    let (stmts, stops) = read_stmts(alloc, scope, stmts, state)?;
+    let (stmts, stops) = read_stmts(alloc, scope, stmts.as_slice(), state)?;
     if !stops && !expects_unit(expected) {
         return Err(TypeFault::At(span, KindOfFault::Mismatch));
     }
@@ -114,10 +113,10 @@ fn read_stmts(
 {
     let mut done = List::new(alloc);
     let mut stops = false;
-    for i in 0..stmts.len() {
-        let (stmt, never) = read_stmt(alloc, scope, &stmts[i], state)?;
+    for item in stmts {
+        let (stmt, never) = read_stmt(alloc, scope, item, state)?;
         done.push(stmt)?;
-        stops = stops || never;
+        stops = stops | never;
     }
     Ok((done, stops))
 }
@@ -140,7 +139,7 @@ fn read_stmt(
                 span: *span,
                 pat,
                 ty,
-                value: value.get(),
+                value,
             };
             read_let(alloc, scope, &parts, state)
         }
@@ -170,7 +169,7 @@ struct Let<'a> {
     span: Span,
     pat: &'a Pat,
     ty: &'a Option<Written>,
-    value: &'a Expr,
+    value: &'a Boxed<Expr>,
 }
 
 /// `let` with a value: the written type, the value, the pattern.
@@ -204,7 +203,7 @@ fn read_let_simple(
     ensures { Gives (rules.let_simple scope.now parts.now.span parts.now.pat.now ty.now (operand scope.now parts.now.value.now) state.old) result state.new }
 {
     let wanted = want_type(alloc, ty.as_ref())?;
-    let held = read_value(alloc, scope, parts.value, &wanted, state)?;
+    let held = read_value(alloc, scope, parts.value.get(), &wanted, state)?;
     let other = value_type(&held);
     let bound = bound_as(alloc, &scope.decls, parts.pat, ty, other, &mut state.types)?;
     Ok(put_or_pass(alloc, parts.span, &bound, held)?)
@@ -222,7 +221,7 @@ fn read_let_pattern(
     ensures { Gives (rules.let_pattern scope.now parts.now.span parts.now.pat.now ty.now (operand scope.now parts.now.value.now) state.old) result state.new }
 {
     let wanted = want_type(alloc, ty.as_ref())?;
-    let scrutinee = read_scrutinee(alloc, scope, parts.value, &wanted, state)?;
+    let scrutinee = read_scrutinee(alloc, scope, parts.value.get(), &wanted, state)?;
     let bound = bound_at(alloc, &scope.decls, parts.pat, &scrutinee, &mut state.types)?;
     if is_uncovered_by(alloc, &scope.decls, scrutinee_type(&scrutinee), &bound)? {
         return Err(TypeFault::At(parts.span, KindOfFault::Uncovered));

@@ -1,5 +1,6 @@
 pub mod Calls
 pub mod Failing
+pub mod Forms
 pub mod Items
 pub mod WalkedArms
 pub mod WalkedParts

@@ -12,7 +12,7 @@ ghost use Rattle.type_values.specs.Gives.{Gives};
 use crate::binding::bound_at;
 use crate::expressions::{read, read_value};
 use crate::statements::read_block;
-use aen_base::{List, Span};
+use aen_base::{Boxed, List, Span};
 use core_ty::Ty;
 use rust_ast::patterns;
 use rust_ast::resolved::{Block, Expr};
@@ -35,17 +35,17 @@ use type_values::values::{gives, is_endless, raw_type};
 #[derive(Drop)]
 pub(crate) struct Branch<'a> {
     pub(crate) span: Span,
-    pub(crate) condition: &'a Expr,
-    pub(crate) yes: &'a Block,
-    pub(crate) no: &'a Expr,
+    pub(crate) condition: &'a Boxed<Expr>,
+    pub(crate) yes: &'a Boxed<Block>,
+    pub(crate) no: &'a Boxed<Expr>,
 }
 
 /// A `match`.
 #[derive(Drop)]
 pub(crate) struct Select<'a> {
     pub(crate) span: Span,
-    pub(crate) scrutinee: &'a Expr,
-    pub(crate) arms: &'a [(patterns::Pat, Expr)],
+    pub(crate) scrutinee: &'a Boxed<Expr>,
+    pub(crate) arms: &'a List<(patterns::Pat, Expr)>,
 }
 
 /// What a `match` or a `let` looks at.
@@ -69,7 +69,7 @@ pub(crate) fn read_scrutinee(
 
 /// `if`.
 #[cycle(reading)]
-#[tactic(auto, unfolding(type_rules::specs::Branches::branch_rule))]
+#[tactic(auto, using(crate::proofs::Forms::branch_gives, crate::proofs::Forms::branch_fails))]
 pub(crate) fn read_branch(
     alloc: Global,
     scope: &Scope,
@@ -79,7 +79,7 @@ pub(crate) fn read_branch(
 ) -> Result<Raw, TypeFault>
     ensures { Gives (rules.branch_rule parts.now.span (operand scope.now parts.now.condition.now) (spec.read_block scope.now parts.now.yes.now) (operand scope.now parts.now.no.now) expected.now state.old) result state.new }
 {
-    let condition = read_scrutinee(alloc, scope, parts.condition, &bool_hint(), state)?;
+    let condition = read_scrutinee(alloc, scope, parts.condition.get(), &bool_hint(), state)?;
     let arms = read_sides(alloc, scope, parts, expected, state)?;
     branch(alloc, parts.span, expected, condition, arms, state)
 }
@@ -96,9 +96,9 @@ fn read_sides(
     ensures { Gives (yes_and_no scope.now parts.now.yes.now parts.now.no.now expected.now state.old) result state.new }
 {
     let wanted = for_arm(alloc, expected, None)?;
-    let yes = read_block(alloc, scope, parts.yes, &wanted, state)?;
+    let yes = read_block(alloc, scope, parts.yes.get(), &wanted, state)?;
     let yes = block_value(alloc, yes)?;
-    let no = read_other(alloc, scope, parts.no, &yes, expected, state)?;
+    let no = read_other(alloc, scope, parts.no.get(), &yes, expected, state)?;
     Ok((yes, no))
 }
 
@@ -131,8 +131,8 @@ pub(crate) fn read_select(
 ) -> Result<Raw, TypeFault>
     ensures { Gives (rules.select_rule scope.now parts.now.span (operand scope.now parts.now.scrutinee.now) (λ k x st. spec.read_arms scope.now (e.arms parts.now.arms.now) k x None st) expected.now state.old) result state.new }
 {
-    let scrutinee = read_scrutinee(alloc, scope, parts.scrutinee, &nothing(), state)?;
-    let (arms, found) = read_arms(alloc, scope, parts.arms, &scrutinee, expected, state)?;
+    let scrutinee = read_scrutinee(alloc, scope, parts.scrutinee.get(), &nothing(), state)?;
+    let (arms, found) = read_arms(alloc, scope, parts.arms.as_slice(), &scrutinee, expected, state)?;
     if are_uncovered(
         alloc,
         &scope.decls,
@@ -178,9 +178,9 @@ fn read_arms(
 {
     let mut done = List::new(alloc);
     let mut found = None;
-    for i in 0..arms.len() {
+    for item in arms {
         let wanted = for_arm(alloc, expected, found.as_ref())?;
-        let arm = read_arm(alloc, scope, &arms[i], scrutinee, &wanted, state)?;
+        let arm = read_arm(alloc, scope, item, scrutinee, &wanted, state)?;
         found = joined(alloc, found, &arm.1)?;
         done.push(arm)?;
     }

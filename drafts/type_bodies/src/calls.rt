@@ -32,7 +32,7 @@ pub(crate) struct Call<'a> {
     pub(crate) span: Span,
     pub(crate) callee: &'a Callee,
     pub(crate) turbos: &'a Turbos,
-    pub(crate) arguments: &'a [Expr],
+    pub(crate) arguments: &'a List<Expr>,
 }
 
 /// A constructor whose parts stand by name in braces.
@@ -42,7 +42,7 @@ pub(crate) struct Braces<'a> {
     pub(crate) decl: TypeId,
     pub(crate) variant: u32,
     pub(crate) turbos: &'a Turbos,
-    pub(crate) inits: &'a [(Span, Name, Expr)],
+    pub(crate) inits: &'a List<(Span, Name, Expr)>,
 }
 
 /// A call: the lists of type arguments first.
@@ -74,7 +74,7 @@ fn read_called(
 {
     let (opened, mut finds) = open_call(alloc, scope, call.callee, lists, expected)?;
     let params = opened.callee.params.as_slice();
-    let parts = read_arguments(alloc, scope, call.arguments, params, &mut finds, state)?;
+    let parts = read_arguments(alloc, scope, call.arguments.as_slice(), params, &mut finds, state)?;
     let site = Site {
         span: call.span,
         called: call.callee,
@@ -177,8 +177,7 @@ fn read_inits(
 {
     let fields = fields_of(scope.decls.as_slice(), braces.decl, braces.variant);
     let mut parts = List::new(alloc);
-    for i in 0..braces.inits.len() {
-        let init = &braces.inits[i];
+    for init in braces.inits.as_slice() {
         let (number, param) = field_of_init(alloc, init, fields, parts.as_slice())?;
         let held = read_argument(alloc, scope, &init.2, &param, finds, state)?;
         parts.push((number, held))?;

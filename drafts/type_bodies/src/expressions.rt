@@ -13,7 +13,7 @@ use crate::branches::{Branch, Select, read_branch, read_select};
 use crate::calls::{Braces, Call, read_braces, read_call};
 use crate::jumps::{Forever, read_forever, read_give, read_leave};
 use crate::operators::{
-    pair_of, read_binary, read_cast, read_compare, read_lazy, read_minus, read_negation,
+    Pair, read_binary, read_cast, read_compare, read_lazy, read_minus, read_negation,
 };
 use crate::places::{FieldAccess, read_assign, read_borrow, read_deref, read_field, read_update};
 use crate::statements::read_block;
@@ -35,6 +35,7 @@ use type_values::written_out::as_value;
 
 /// An expression as it stands.
 #[cycle(reading)]
+#[tactic(auto, unfolding(type_rules::specs::Operands::variable_rule))]
 pub(crate) fn read(
     alloc: Global,
     scope: &Scope,
@@ -56,7 +57,6 @@ pub(crate) fn read(
         }
         ExprNode::Truth(span, holds) => gives(truth(alloc, *span, *holds)?, state),
         ExprNode::Tuple(span, parts) => {
-            let parts = parts.as_slice();
             read_tuple(alloc, scope, *span, parts, expected, state)
         }
         ExprNode::Inner(block) => {
@@ -66,17 +66,17 @@ pub(crate) fn read(
         ExprNode::Branch(span, condition, yes, no) => {
             let parts = Branch {
                 span: *span,
-                condition: condition.get(),
-                yes: yes.get(),
-                no: no.get(),
+                condition,
+                yes,
+                no,
             };
             read_branch(alloc, scope, &parts, expected, state)
         }
         ExprNode::Select(span, scrutinee, arms) => {
             let parts = Select {
                 span: *span,
-                scrutinee: scrutinee.get(),
-                arms: arms.as_slice(),
+                scrutinee,
+                arms,
             };
             read_select(alloc, scope, &parts, expected, state)
         }
@@ -85,7 +85,7 @@ pub(crate) fn read(
                 span: *span,
                 number: *number,
                 is_while: *is_while,
-                body: body.get(),
+                body,
             };
             read_forever(alloc, scope, &parts, expected, state)
         }
@@ -96,7 +96,7 @@ pub(crate) fn read(
                 span: *span,
                 callee,
                 turbos,
-                arguments: arguments.as_slice(),
+                arguments,
             };
             read_call(alloc, scope, &parts, expected, state)
         }
@@ -106,14 +106,14 @@ pub(crate) fn read(
                 decl: *decl,
                 variant: *variant,
                 turbos,
-                inits: inits.as_slice(),
+                inits,
             };
             read_braces(alloc, scope, &parts, expected, state)
         }
         ExprNode::Field(span, operand, at, name) => {
             let parts = FieldAccess {
                 span: *span,
-                of: operand.get(),
+                of: operand,
                 at: *at,
                 name,
             };
@@ -130,30 +130,54 @@ pub(crate) fn read(
             read_borrow(alloc, scope, *span, *mutable, operand.get(), state)
         }
         ExprNode::Binary(span, op, left, right) => {
-            let pair = pair_of(*span, left.get(), right.get());
+            let pair = Pair {
+                span: *span,
+                left,
+                right,
+            };
             read_binary(alloc, scope, op, &pair, expected, state)
         }
         ExprNode::Compare(span, op, left, right) => {
-            let pair = pair_of(*span, left.get(), right.get());
+            let pair = Pair {
+                span: *span,
+                left,
+                right,
+            };
             read_compare(alloc, scope, op, &pair, state)
         }
         ExprNode::Both(span, left, right) => {
-            let pair = pair_of(*span, left.get(), right.get());
+            let pair = Pair {
+                span: *span,
+                left,
+                right,
+            };
             read_lazy(alloc, scope, true, &pair, state)
         }
         ExprNode::Either(span, left, right) => {
-            let pair = pair_of(*span, left.get(), right.get());
+            let pair = Pair {
+                span: *span,
+                left,
+                right,
+            };
             read_lazy(alloc, scope, false, &pair, state)
         }
         ExprNode::Cast(span, operand, to) => {
             read_cast(alloc, scope, *span, operand.get(), to, state)
         }
         ExprNode::Assign(span, left, right) => {
-            let pair = pair_of(*span, left.get(), right.get());
+            let pair = Pair {
+                span: *span,
+                left,
+                right,
+            };
             read_assign(alloc, scope, &pair, state)
         }
         ExprNode::Update(span, op, left, right) => {
-            let pair = pair_of(*span, left.get(), right.get());
+            let pair = Pair {
+                span: *span,
+                left,
+                right,
+            };
             read_update(alloc, scope, op, &pair, state)
         }
         ExprNode::Give(span, None) => give_nothing(alloc, scope, *span, expected, state),
@@ -190,14 +214,14 @@ fn read_tuple(
     alloc: Global,
     scope: &Scope,
     span: Span,
-    parts: &[Expr],
+    parts: &List<Expr>,
     expected: &Expected,
     state: &mut State,
 ) -> Result<Raw, TypeFault>
     ensures { Gives (rules.tuple_rule span (length (e.exprs_list (e.exprs parts.now))) (spec.read_all scope.now (e.exprs parts.now)) expected.now state.old) result state.new }
 {
     let wanted = parts_expected(alloc, expected, parts.len())?;
-    let values = read_all(alloc, scope, parts, wanted.as_slice(), state)?;
+    let values = read_all(alloc, scope, parts.as_slice(), wanted.as_slice(), state)?;
     gives(tuple(alloc, span, values)?, state)
 }
 

@@ -6,7 +6,7 @@ ghost use Rattle.type_values.specs.Gives.{Gives};
 
 use crate::expressions::read_value;
 use crate::statements::read_block;
-use aen_base::Span;
+use aen_base::{Boxed, Span};
 use rust_ast::resolved::{Block, Expr};
 use std::alloc::Global;
 use type_forms::loops::{break_of, give, leave_loop, loop_value, word_of};
@@ -23,7 +23,7 @@ pub(crate) struct Forever<'a> {
     pub(crate) span: Span,
     pub(crate) number: u32,
     pub(crate) is_while: bool,
-    pub(crate) body: &'a Block,
+    pub(crate) body: &'a Boxed<Block>,
 }
 
 /// `loop`, and `while` as it is read.
@@ -39,7 +39,7 @@ pub(crate) fn read_forever(
     ensures { Gives (rules.loop_rule parts.now.span parts.now.number parts.now.is_while (spec.read_block scope.now parts.now.body.now) expected.now state.old) result state.new }
 {
     enter(alloc, parts.number, parts.is_while, expected, state)?;
-    let body = read_block(alloc, scope, parts.body, &unit_hint(), state)?;
+    let body = read_block(alloc, scope, parts.body.get(), &unit_hint(), state)?;
     let around = leave(alloc, state)?;
     gives(loop_value(alloc, parts.span, around, body)?, state)
 }

@@ -1,12 +1,12 @@
 //! Operators on values.
-ghost use Rattle.std.specs.Prelude.{◌≡◌, if◌then◌else◌};
+ghost use Rattle.std.specs.Prelude.{if◌then◌else◌};
 ghost use Rattle.type_bodies.specs.Parts.{operand};
 ghost use Rattle.type_forms.specs.Operator.{lazy_form, takes};
 ghost use Rattle.type_rules.specs.Operators as rules;
 ghost use Rattle.type_values.specs.Gives.{Gives};
 
 use crate::expressions::read_value;
-use aen_base::{BinOp, CmpOp, IntTy, Span};
+use aen_base::{BinOp, Boxed, CmpOp, IntTy, Span};
 use rust_ast::resolved::Expr;
 use rust_ast::spelled::Val;
 use std::alloc::Global;
@@ -27,17 +27,8 @@ use type_values::values::value_type;
 #[derive(Drop)]
 pub(crate) struct Pair<'a> {
     pub(crate) span: Span,
-    pub(crate) left: &'a Expr,
-    pub(crate) right: &'a Expr,
-}
-
-/// Two operands with the span of the whole.
-pub(crate) fn pair_of<'a>(span: Span, left: &'a Expr, right: &'a Expr) -> Pair<'a>
-    ensures span { result.span ≡ span }
-    ensures left { result.left.now ≡ left.now }
-    ensures right { result.right.now ≡ right.now }
-{
-    Pair { span, left, right }
+    pub(crate) left: &'a Boxed<Expr>,
+    pub(crate) right: &'a Boxed<Expr>,
 }
 
 /// `-e`.
@@ -105,12 +96,12 @@ fn read_left_first(
 ) -> Result<(Val, Val), TypeFault>
     ensures { Gives (rules.left_first (takes operator.now) (operand scope.now pair.now.left.now) (operand scope.now pair.now.right.now) expected.now state.old) result state.new }
 {
-    let left = read_value(alloc, scope, pair.left, expected, state)?;
+    let left = read_value(alloc, scope, pair.left.get(), expected, state)?;
     if !takes(operator, value_type(&left)) {
-        return Err(TypeFault::At(span_of(pair.left), KindOfFault::NotInteger));
+        return Err(TypeFault::At(span_of(pair.left.get()), KindOfFault::NotInteger));
     }
     let wanted = hint(alloc, value_type(&left))?;
-    let right = read_value(alloc, scope, pair.right, &wanted, state)?;
+    let right = read_value(alloc, scope, pair.right.get(), &wanted, state)?;
     Ok((left, right))
 }
 
@@ -125,12 +116,12 @@ fn read_right_first(
 ) -> Result<(Val, Val), TypeFault>
     ensures { Gives (rules.right_first (takes operator.now) (operand scope.now pair.now.left.now) (operand scope.now pair.now.right.now) state.old) result state.new }
 {
-    let right = read_value(alloc, scope, pair.right, &nothing(), state)?;
+    let right = read_value(alloc, scope, pair.right.get(), &nothing(), state)?;
     if !takes(operator, value_type(&right)) {
-        return Err(TypeFault::At(span_of(pair.right), KindOfFault::NotInteger));
+        return Err(TypeFault::At(span_of(pair.right.get()), KindOfFault::NotInteger));
     }
     let wanted = hint(alloc, value_type(&right))?;
-    let left = read_value(alloc, scope, pair.left, &wanted, state)?;
+    let left = read_value(alloc, scope, pair.left.get(), &wanted, state)?;
     Ok((left, right))
 }
 
@@ -148,7 +139,7 @@ fn read_operands(
 ) -> Result<(Val, Val), TypeFault>
     ensures { Gives (rules.operands (takes operator.now) (operand scope.now pair.now.left.now) (operand scope.now pair.now.right.now) expected.now state.old) result state.new }
 {
-    if is_unsuffixed(pair.left) && is_unexpected(expected) {
+    if is_unsuffixed(pair.left.get()) && is_unexpected(expected) {
         read_right_first(alloc, scope, operator, pair, state)
     } else {
         read_left_first(alloc, scope, operator, pair, expected, state)
@@ -166,19 +157,20 @@ fn read_shift(
 ) -> Result<(Val, Val), TypeFault>
     ensures { Gives (rules.shift (operand scope.now pair.now.left.now) (operand scope.now pair.now.right.now) expected.now state.old) result state.new }
 {
-    let left = read_value(alloc, scope, pair.left, expected, state)?;
+    let left = read_value(alloc, scope, pair.left.get(), expected, state)?;
     if !is_integer(value_type(&left)) {
-        return Err(TypeFault::At(span_of(pair.left), KindOfFault::NotInteger));
+        return Err(TypeFault::At(span_of(pair.left.get()), KindOfFault::NotInteger));
     }
-    let right = read_value(alloc, scope, pair.right, &nothing(), state)?;
+    let right = read_value(alloc, scope, pair.right.get(), &nothing(), state)?;
     if !is_integer(value_type(&right)) {
-        return Err(TypeFault::At(span_of(pair.right), KindOfFault::NotInteger));
+        return Err(TypeFault::At(span_of(pair.right.get()), KindOfFault::NotInteger));
     }
     Ok((left, right))
 }
 
 /// The operands of an operator.
 #[cycle(reading)]
+#[tactic(auto, using(crate::proofs::Forms::unshifted))]
 fn read_sides(
     alloc: Global,
     scope: &Scope,
@@ -244,7 +236,7 @@ pub(crate) fn read_lazy(
     ensures { Gives (rules.lazy_rule pair.now.span (lazy_form is_both) (operand scope.now pair.now.left.now) (operand scope.now pair.now.right.now) state.old) result state.new }
 {
     let truth = bool_hint();
-    let left = read_value(alloc, scope, pair.left, &truth, state)?;
-    let right = read_value(alloc, scope, pair.right, &truth, state)?;
+    let left = read_value(alloc, scope, pair.left.get(), &truth, state)?;
+    let right = read_value(alloc, scope, pair.right.get(), &truth, state)?;
     lazy(alloc, pair.span, is_both, left, right, state)
 }

@@ -6,7 +6,7 @@ ghost use Rattle.type_values.specs.Gives.{Gives};
 
 use crate::expressions::{read, read_value};
 use crate::operators::Pair;
-use aen_base::{BinOp, Name, Span};
+use aen_base::{BinOp, Boxed, Name, Span};
 use core_ty::Ty;
 use rust_ast::resolved::Expr;
 use rust_ast::spelled::Val;
@@ -58,7 +58,7 @@ pub(crate) fn read_borrow(
 #[derive(Drop)]
 pub(crate) struct FieldAccess<'a> {
     pub(crate) span: Span,
-    pub(crate) of: &'a Expr,
+    pub(crate) of: &'a Boxed<Expr>,
     pub(crate) at: Span,
     pub(crate) name: &'a Name,
 }
@@ -74,8 +74,8 @@ pub(crate) fn read_field(
 ) -> Result<Raw, TypeFault>
     ensures { Gives (rules.field_rule scope.now access.now.span (operand scope.now access.now.of.now) access.now.at access.now.name.now state.old) result state.new }
 {
-    let raw = read(alloc, scope, access.of, &nothing(), state)?;
-    let inner = strip(alloc, span_of(access.of), raw)?;
+    let raw = read(alloc, scope, access.of.get(), &nothing(), state)?;
+    let inner = strip(alloc, span_of(access.of.get()), raw)?;
     let named = Named {
         span: access.at,
         name: access.name,
@@ -121,9 +121,9 @@ pub(crate) fn read_assign(
 ) -> Result<Raw, TypeFault>
     ensures { Gives (rules.assign_rule pair.now.span (operand scope.now pair.now.left.now) (operand scope.now pair.now.right.now) state.old) result state.new }
 {
-    let target = read_target(alloc, scope, pair.left, state)?;
+    let target = read_target(alloc, scope, pair.left.get(), state)?;
     let wanted = want(alloc, raw_type(&target))?;
-    let held = read_value(alloc, scope, pair.right, &wanted, state)?;
+    let held = read_value(alloc, scope, pair.right.get(), &wanted, state)?;
     assign(alloc, pair.span, target, held, state)
 }
 
@@ -162,10 +162,10 @@ pub(crate) fn read_update(
 ) -> Result<Raw, TypeFault>
     ensures { Gives (rules.update_rule pair.now.span op.now (operand scope.now pair.now.left.now) (operand scope.now pair.now.right.now) state.old) result state.new }
 {
-    let target = read_target(alloc, scope, pair.left, state)?;
+    let target = read_target(alloc, scope, pair.left.get(), state)?;
     if !takes_type(*op, raw_type(&target)) {
-        return Err(TypeFault::At(span_of(pair.left), KindOfFault::NotInteger));
+        return Err(TypeFault::At(span_of(pair.left.get()), KindOfFault::NotInteger));
     }
-    let held = read_change(alloc, scope, op, pair.right, raw_type(&target), state)?;
+    let held = read_change(alloc, scope, op, pair.right.get(), raw_type(&target), state)?;
     update(alloc, pair.span, op, target, held, state)
 }

@@ -84,7 +84,7 @@ decreases-statements::read_let_simple l = 12 * e.nodes_expr l.parts.now.value.no
 abbrev pub decreases-statements::read_let_pattern : goal.decreases-statements::read_let_pattern
 decreases-statements::read_let_pattern l = 12 * e.nodes_expr l.parts.now.value.now + 2
 
-abbrev pub invariant-statements::read_stmts-loop-i : goal.invariant-statements::read_stmts-loop-i
-invariant-statements::read_stmts-loop-i l =
+abbrev pub invariant-statements::read_stmts-loop-item : goal.invariant-statements::read_stmts-loop-item
+invariant-statements::read_stmts-loop-item l =
     read_stmts l.scope (e.stmts l.stmts) l.fn.state
-    ≡ onward before_stmts (l.done, l.stops) (read_stmts l.scope (e.stmts (drop l.i l.stmts)) l.state)
+    ≡ onward before_stmts (l.done, l.stops) (read_stmts l.scope (e.stmts (drop l.item-index l.stmts)) l.state)

@@ -158,22 +158,22 @@ invariant-expressions::read_all-loop-i l =
     read_all l.scope (e.exprs l.parts) l.expected l.fn.state
     ≡ onward before_values l.done (read_all l.scope (e.exprs (drop l.i l.parts)) (drop l.i l.expected) l.state)
 
-abbrev pub invariant-branches::read_arms-loop-i : goal.invariant-branches::read_arms-loop-i
-invariant-branches::read_arms-loop-i l =
+abbrev pub invariant-branches::read_arms-loop-item : goal.invariant-branches::read_arms-loop-item
+invariant-branches::read_arms-loop-item l =
     read_arms l.scope (e.arms l.arms) l.scrutinee l.expected None l.fn.state
-    ≡ onward before_arms l.done (read_arms l.scope (e.arms (drop l.i l.arms)) l.scrutinee l.expected l.found l.state)
+    ≡ onward before_arms l.done (read_arms l.scope (e.arms (drop l.item-index l.arms)) l.scrutinee l.expected l.found l.state)
 
 abbrev pub invariant-calls::read_arguments-loop-i : goal.invariant-calls::read_arguments-loop-i
 invariant-calls::read_arguments-loop-i l =
     read_arguments l.scope (e.exprs l.arguments) l.params 0 l.fn.finds l.fn.state
     ≡ onward before_arguments l.parts (read_arguments l.scope (e.exprs (drop l.i l.arguments)) (drop l.i l.params) l.i l.finds l.state)
 
-abbrev pub invariant-calls::read_inits-loop-i : goal.invariant-calls::read_inits-loop-i
-invariant-calls::read_inits-loop-i l =
+abbrev pub invariant-calls::read_inits-loop-init : goal.invariant-calls::read_inits-loop-init
+invariant-calls::read_inits-loop-init l =
     read_inits l.scope (e.inits l.braces.inits.now) (fields_of l.scope.decls l.braces.decl.0 l.braces.variant) [] l.fn.finds l.fn.state
-    ≡ onward before_arguments l.parts (read_inits l.scope (e.inits (drop l.i l.braces.inits.now)) (fields_of l.scope.decls l.braces.decl.0 l.braces.variant) (inits_seen l.parts) l.finds l.state)
+    ≡ onward before_arguments l.parts (read_inits l.scope (e.inits (drop l.init-index l.braces.inits.now)) (fields_of l.scope.decls l.braces.decl.0 l.braces.variant) (inits_seen l.parts) l.finds l.state)
 
-abbrev pub invariant-statements::read_stmts-loop-i : goal.invariant-statements::read_stmts-loop-i
-invariant-statements::read_stmts-loop-i l =
+abbrev pub invariant-statements::read_stmts-loop-item : goal.invariant-statements::read_stmts-loop-item
+invariant-statements::read_stmts-loop-item l =
     read_stmts l.scope (e.stmts l.stmts) l.fn.state
-    ≡ onward before_stmts (l.done, l.stops) (read_stmts l.scope (e.stmts (drop l.i l.stmts)) l.state)
+    ≡ onward before_stmts (l.done, l.stops) (read_stmts l.scope (e.stmts (drop l.item-index l.stmts)) l.state)
