@@ -1,0 +1,5 @@
+pub mod Arguing
+pub mod Forms
+pub mod Looking
+pub mod Meeting
+pub mod Told
