@@ -6,7 +6,7 @@ use Rattle.core_ty.specs.declared.decl.TypeDecl.{TypeDecl}
 use Rattle.type_patterns.specs.Arguing.{is_among}
 use Rattle.type_patterns.specs.declared.patterns.Head.{Head}
 use Rattle.type_rules.specs.Binding.{Bound, Met}
-use Rattle.type_rules.specs.Constructors.{constructor_arguments, is_no_tuple, is_other_declared, is_wrong_list, put_in_fields, tuple_types}
+use Rattle.type_rules.specs.Constructors.{constructor_arguments, field_type, is_no_tuple, is_other_declared, is_wrong_list, put_in_fields, tuple_types}
 use Rattle.type_rules.specs.Faults.{Fault, and_then, at, refuse}
 use Rattle.type_rules.specs.Fields.{Part, field_named, fields_of, parameters_of}
 use Rattle.type_rules.specs.Patterns.{field_patterns, fieldpats_length, numbered_pats, patterns, source_length}
@@ -34,20 +34,20 @@ tuple ds s xs m types =
     refuse (is_no_tuple (source_length xs) m.part) s Mismatch (
     Ok (q.tuple r.0, r.1)))
 
--- a constructor with these lists of type arguments, its parts by place
-abbrev pub construct : List TypeDecl → Head → List (List t.Ty) → p.Pats → Met → List t.Ty → Bound
-construct ds h ls xs m types =
-    and_then (patterns ds xs (put_in_fields (constructor_arguments ds h.decl.0 ls m.part) (fields_of ds h.decl.0 h.variant)) m types) (λ r.
-    refuse (is_other_declared h.decl.0 (constructor_arguments ds h.decl.0 ls m.part) m.part) h.span Mismatch (
-    refuse (is_wrong_list (parameters_of ds h.decl.0) ls || not (source_length xs == length (fields_of ds h.decl.0 h.variant))) h.span Arity (
+-- a constructor, its parts by place
+abbrev pub construct : List TypeDecl → Head → p.Pats → Met → List t.Ty → Bound
+construct ds h xs m types =
+    and_then (patterns ds xs (put_in_fields (constructor_arguments ds h.decl.0 h.lists m.part) (fields_of ds h.decl.0 h.variant)) m types) (λ r.
+    refuse (is_other_declared h.decl.0 (constructor_arguments ds h.decl.0 h.lists m.part) m.part) h.span Mismatch (
+    refuse (is_wrong_list (parameters_of ds h.decl.0) h.lists || not (source_length xs == length (fields_of ds h.decl.0 h.variant))) h.span Arity (
     Ok (q.construct h.decl h.variant (numbered_pats 0 r.0), r.1))))
 
 -- the same, its parts by name
-abbrev pub literal : List TypeDecl → Head → List (List t.Ty) → p.FieldPats → Met → List t.Ty → Bound
-literal ds h ls xs m types =
-    and_then (field_patterns ds xs (fields_of ds h.decl.0 h.variant) (constructor_arguments ds h.decl.0 ls m.part) [] m types) (λ r.
-    refuse (is_other_declared h.decl.0 (constructor_arguments ds h.decl.0 ls m.part) m.part) h.span Mismatch (
-    refuse (is_wrong_list (parameters_of ds h.decl.0) ls) h.span Arity (
+abbrev pub literal : List TypeDecl → Head → p.FieldPats → Met → List t.Ty → Bound
+literal ds h xs m types =
+    and_then (field_patterns ds xs (fields_of ds h.decl.0 h.variant) (constructor_arguments ds h.decl.0 h.lists m.part) [] m types) (λ r.
+    refuse (is_other_declared h.decl.0 (constructor_arguments ds h.decl.0 h.lists m.part) m.part) h.span Mismatch (
+    refuse (is_wrong_list (parameters_of ds h.decl.0) h.lists) h.span Arity (
     refuse (nat_lt (fieldpats_length r.0) (length (fields_of ds h.decl.0 h.variant))) h.span Field (
     Ok (q.construct h.decl h.variant r.0, r.1)))))
 
@@ -58,3 +58,10 @@ field_new s seen (Some f) = refuse (is_among seen f.0) s Field (Ok f)
 
 abbrev pub new_field : List ℕ → List (List ℕ × t.Ty) → List ℕ → Span → Result (ℕ × t.Ty) Fault
 new_field name fs seen s = field_new s seen (field_named name 0 fs)
+
+-- the field's number, and its type where the type arguments are known
+abbrev pub typed : Option (List t.Ty) → ℕ × t.Ty → ℕ × Option t.Ty
+typed args f = (f.0, field_type args (Some f))
+
+abbrev pub typed_field : Option (List t.Ty) → List ℕ → List (List ℕ × t.Ty) → List ℕ → Span → Result (ℕ × Option t.Ty) Fault
+typed_field args name fs seen s = and_then (new_field name fs seen s) (λ f. Ok (typed args f))

@@ -25,14 +25,14 @@ use Rattle.core_ty.specs.Types as t
 abbrev pub tuple_met : List TypeDecl → Span → p.Pats → Option t.Ty → Around → List t.Ty → Bound
 tuple_met ds s xs o a types = wrapped_all (kind_seen o) (forms.tuple ds s xs (seen o a) types)
 
-abbrev pub construct_met : List TypeDecl → Head → List (List t.Ty) → p.Pats → Option t.Ty → Around → List t.Ty → Bound
-construct_met ds h ls xs o a types = wrapped_all (kind_seen o) (forms.construct ds h ls xs (seen o a) types)
+abbrev pub construct_met : List TypeDecl → Head → p.Pats → Option t.Ty → Around → List t.Ty → Bound
+construct_met ds h xs o a types = wrapped_all (kind_seen o) (forms.construct ds h xs (seen o a) types)
 
-abbrev pub literal_met : List TypeDecl → Head → List (List t.Ty) → p.FieldPats → Option t.Ty → Around → List t.Ty → Bound
-literal_met ds h ls xs o a types = wrapped_all (kind_seen o) (forms.literal ds h ls xs (seen o a) types)
+abbrev pub literal_met : List TypeDecl → Head → p.FieldPats → Option t.Ty → Around → List t.Ty → Bound
+literal_met ds h xs o a types = wrapped_all (kind_seen o) (forms.literal ds h xs (seen o a) types)
 
-abbrev head : Span → TypeId → ℕ → Head
-head s d v = record { span = s; decl = d; variant = v }
+abbrev pub head : Span → TypeId → ℕ → List (List t.Ty) → Head
+head s d v ls = record { span = s; decl = d; variant = v; lists = ls }
 
 each : {A : Type 0} (r : Result A Fault) (f : A → Met → Bound) (o : Option t.Ty) (a : Around) → and_then r (λ ls. looked (f ls) (met o a) o) ≡ and_then r (λ ls. wrapped_all (kind_seen o) (f ls (seen o a)))
 each (Ok ls) f o a = looks (f ls) o a
@@ -64,9 +64,9 @@ pub tuple_looks : (ds : List TypeDecl) (s : Span) (xs : p.Pats) (o : Option t.Ty
 tuple_looks ds s xs o a types = looks (λ m. forms.tuple ds s xs m types) o a
 
 pub construct_looks : (ds : List TypeDecl) (s : Span) (d : TypeId) (v : ℕ) (ts : w.Turbos) (xs : p.Pats) (o : Option t.Ty) (a : Around) (types : List t.Ty) →
-    pattern ds (p.construct s d v ts xs) (met o a) types ≡ and_then (arguments_lists ds ts) (λ ls. construct_met ds (head s d v) ls xs o a types)
-construct_looks ds s d v ts xs o a types = each (arguments_lists ds ts) (λ ls m. forms.construct ds (head s d v) ls xs m types) o a
+    pattern ds (p.construct s d v ts xs) (met o a) types ≡ and_then (arguments_lists ds ts) (λ ls. construct_met ds (head s d v ls) xs o a types)
+construct_looks ds s d v ts xs o a types = each (arguments_lists ds ts) (λ ls m. forms.construct ds (head s d v ls) xs m types) o a
 
 pub literal_looks : (ds : List TypeDecl) (s : Span) (d : TypeId) (v : ℕ) (ts : w.Turbos) (xs : p.FieldPats) (o : Option t.Ty) (a : Around) (types : List t.Ty) →
-    pattern ds (p.literal s d v ts xs) (met o a) types ≡ and_then (arguments_lists ds ts) (λ ls. literal_met ds (head s d v) ls xs o a types)
-literal_looks ds s d v ts xs o a types = each (arguments_lists ds ts) (λ ls m. forms.literal ds (head s d v) ls xs m types) o a
+    pattern ds (p.literal s d v ts xs) (met o a) types ≡ and_then (arguments_lists ds ts) (λ ls. literal_met ds (head s d v ls) xs o a types)
+literal_looks ds s d v ts xs o a types = each (arguments_lists ds ts) (λ ls m. forms.literal ds (head s d v ls) xs m types) o a

@@ -1,9 +1,10 @@
 -- What a pattern meets, as code says it, and looking through a reference in steps.
-use Rattle.std.specs.Prelude.{◌≡◌, Bool, true, Result, Ok, Err, Option, Some, None, List, refl}
+use Rattle.std.specs.Prelude.{◌≡◌, Bool, true, Result, Ok, Err, Option, Some, None, option_copied, List, refl}
 use Rattle.rust_ast.specs.declared.spelled_patterns.ModeNode.{ModeNode}
 use Rattle.rust_ast.specs.SpelledPatternsView.{mode_of}
 use Rattle.type_patterns.specs.declared.binding.Around.{Around}
 use Rattle.type_patterns.specs.declared.binding.Binding as code
+use Rattle.type_patterns.specs.declared.binding.Meets as part
 use Rattle.type_rules.specs.Binding.{Bound, Met, looked}
 use Rattle.type_rules.specs.Faults.{and_then}
 use Rattle.rust_ast.specs.SpelledPatterns as q
@@ -11,6 +12,9 @@ use Rattle.core_ty.specs.Types as t
 
 abbrev pub met : Option t.Ty → Around → Met
 met o a = record { part = o; kind = a.kind; behind = a.behind }
+
+abbrev pub met_as : part.Meets → Met
+met_as m = met (option_copied m.part) m.around
 
 abbrev pub bound_so : code.Binding → ModeNode → q.Pat
 bound_so b m = q.bind b.span b.variable (mode_of m)

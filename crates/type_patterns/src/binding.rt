@@ -23,6 +23,13 @@ pub struct Around {
     pub behind: bool,
 }
 
+/// What a pattern meets: the type, where the patterns around are not at fault, and how it stands.
+#[derive(Clone, Copy)]
+pub struct Meets<'a> {
+    pub part: Option<&'a Ty>,
+    pub around: Around,
+}
+
 /// A name in a pattern: where the pattern stands, where the name does, whether `mut` is written, and
 /// the variable.
 #[derive(Clone, Copy, PartialEq, Eq)]
@@ -163,8 +170,18 @@ fn kind_of(ty: &Ty) -> Option<bool>
     }
 }
 
+/// What is seen of what is met: what a reference leads to where one is met.
+pub fn seen_of(meets: Meets<'_>) -> Meets<'_>
+    ensures { meeting.met_as result ≡ meeting.seen (option_copied meets.entry.part) meets.entry.around }
+{
+    Meets {
+        part: part_seen(meets.part),
+        around: around_seen(meets.around, kind_seen(meets.part)),
+    }
+}
+
 /// How the part that is seen stands.
-pub fn around_seen(around: Around, kind: Option<bool>) -> Around
+fn around_seen(around: Around, kind: Option<bool>) -> Around
     ensures { result ≡ meeting.around_seen around kind }
 {
     match kind {

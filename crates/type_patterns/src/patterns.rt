@@ -7,11 +7,10 @@ ghost use Rattle.type_patterns.specs.Forms as forms;
 ghost use Rattle.type_patterns.specs.Forms.{GivesAs};
 ghost use Rattle.type_patterns.specs.Looking as looking;
 ghost use Rattle.type_patterns.specs.Meeting as meeting;
-ghost use Rattle.type_rules.specs.Constructors as constructing;
 ghost use Rattle.type_rules.specs.Patterns as spec;
 ghost use Rattle.type_values.specs.Gives.{Answers, Gives};
 
-use crate::binding::{Around, Binding, around_seen, bound, kind_seen, part_seen, wrapped};
+use crate::binding::{Around, Binding, Meets, bound, kind_seen, seen_of, wrapped};
 use crate::constructors::{
     constructor_arguments, field_type, is_among, is_no_tuple, is_other_declared, put_in_fields,
     tuple_types,
@@ -27,12 +26,33 @@ use type_values::TypeFault;
 use type_values::fields::{field_named, fields_of, parameters_of};
 use type_values::written::{arguments_lists, is_wrong_list};
 
-/// A constructor in a pattern: where it stands, the declared type and its variant.
-#[derive(Clone, Copy, PartialEq, Eq)]
+/// A constructor in a pattern: where it stands, the declared type and its variant, and the lists of
+/// type arguments, of which there is one at most.
+#[derive(Drop)]
 struct Head {
     span: Span,
     decl: TypeId,
     variant: u32,
+    lists: List<List<Ty>>,
+}
+
+/// A constructor with these lists.
+fn constructor(span: Span, decl: TypeId, variant: u32, lists: List<List<Ty>>) -> Head
+    ensures { result ≡ looking.head span decl variant lists }
+{
+    Head {
+        span,
+        decl,
+        variant,
+        lists,
+    }
+}
+
+/// A constructor's fields, and the type arguments where they are known.
+#[derive(Clone, Copy)]
+struct Known<'a> {
+    fields: &'a [(Name, Ty)],
+    args: &'a Option<List<Ty>>,
 }
 
 /// A pattern that meets this; the types of its variables are noted. The first fault is that of the
@@ -44,11 +64,10 @@ pub fn pattern(
     alloc: Global,
     decls: &List<TypeDecl>,
     pat: &Pat,
-    part: Option<&Ty>,
-    around: Around,
+    meets: Meets<'_>,
     types: &mut List<Ty>,
 ) -> Result<spelled::Pat, TypeFault>
-    ensures { Gives (spec.pattern decls.now pat.now (meeting.met (option_copied part.entry) around) types.old) result types.new }
+    ensures { Gives (spec.pattern decls.now pat.now (meeting.met_as meets.entry) types.old) result types.new }
 {
     match &pat.node {
         PatNode::Wild(_) => Ok(spelled::Pat {
@@ -61,50 +80,24 @@ pub fn pattern(
                 mutable: *mutable,
                 variable: *variable,
             };
-            bound(alloc, binding, part, around, types)
+            bound(alloc, binding, meets.part, meets.around, types)
         }
         PatNode::Number(span, negative, magnitude, suffix) => {
-            Ok(number(alloc, *span, *negative, *magnitude, *suffix, part)?)
+            Ok(number(alloc, *span, *negative, *magnitude, *suffix, meets.part)?)
         }
-        PatNode::Truth(span, holds) => { Ok(truth(alloc, *span, *holds, part)?) }
+        PatNode::Truth(span, holds) => { Ok(truth(alloc, *span, *holds, meets.part)?) }
         PatNode::Tuple(span, items) => {
-            tuple_met(alloc, decls, *span, items.as_slice(), part, around, types)
+            tuple_met(alloc, decls, *span, items.as_slice(), meets, types)
         }
         PatNode::Construct(span, decl, variant, turbos, items) => {
-            let head = Head {
-                span: *span,
-                decl: *decl,
-                variant: *variant,
-            };
             let lists = arguments_lists(alloc, decls, turbos)?;
-            construct_met(
-                alloc,
-                decls,
-                head,
-                lists.as_slice(),
-                items.as_slice(),
-                part,
-                around,
-                types,
-            )
+            let head = constructor(*span, *decl, *variant, lists);
+            construct_met(alloc, decls, &head, items.as_slice(), meets, types)
         }
         PatNode::Literal(span, decl, variant, turbos, items) => {
-            let head = Head {
-                span: *span,
-                decl: *decl,
-                variant: *variant,
-            };
             let lists = arguments_lists(alloc, decls, turbos)?;
-            literal_met(
-                alloc,
-                decls,
-                head,
-                lists.as_slice(),
-                items.as_slice(),
-                part,
-                around,
-                types,
-            )
+            let head = constructor(*span, *decl, *variant, lists);
+            literal_met(alloc, decls, &head, items.as_slice(), meets, types)
         }
     }
 }
@@ -116,16 +109,13 @@ fn tuple_met(
     decls: &List<TypeDecl>,
     span: Span,
     items: &[Pat],
-    part: Option<&Ty>,
-    around: Around,
+    meets: Meets<'_>,
     types: &mut List<Ty>,
 ) -> Result<spelled::Pat, TypeFault>
-    ensures { Gives (looking.tuple_met decls.now span (p.pats items.now) (option_copied part.entry) around types.old) result types.new }
+    ensures { Gives (looking.tuple_met decls.now span (p.pats items.now) (option_copied meets.entry.part) meets.entry.around types.old) result types.new }
 {
-    let kind = kind_seen(part);
-    let within = around_seen(around, kind);
-    let inner = tuple(alloc, decls, span, items, part_seen(part), within, types)?;
-    Ok(wrapped(alloc, kind, inner)?)
+    let inner = tuple(alloc, decls, span, items, seen_of(meets), types)?;
+    Ok(wrapped(alloc, kind_seen(meets.part), inner)?)
 }
 
 /// A constructor whose parts stand by place, looking through a reference where one is met.
@@ -133,28 +123,15 @@ fn tuple_met(
 fn construct_met(
     alloc: Global,
     decls: &List<TypeDecl>,
-    head: Head,
-    lists: &[List<Ty>],
+    head: &Head,
     items: &[Pat],
-    part: Option<&Ty>,
-    around: Around,
+    meets: Meets<'_>,
     types: &mut List<Ty>,
 ) -> Result<spelled::Pat, TypeFault>
-    ensures { Gives (looking.construct_met decls.now head lists.now (p.pats items.now) (option_copied part.entry) around types.old) result types.new }
+    ensures { Gives (looking.construct_met decls.now head.now (p.pats items.now) (option_copied meets.entry.part) meets.entry.around types.old) result types.new }
 {
-    let kind = kind_seen(part);
-    let within = around_seen(around, kind);
-    let inner = construct(
-        alloc,
-        decls,
-        head,
-        lists,
-        items,
-        part_seen(part),
-        within,
-        types,
-    )?;
-    Ok(wrapped(alloc, kind, inner)?)
+    let inner = construct(alloc, decls, head, items, seen_of(meets), types)?;
+    Ok(wrapped(alloc, kind_seen(meets.part), inner)?)
 }
 
 /// A constructor whose parts stand by name, looking through a reference where one is met.
@@ -162,28 +139,15 @@ fn construct_met(
 fn literal_met(
     alloc: Global,
     decls: &List<TypeDecl>,
-    head: Head,
-    lists: &[List<Ty>],
+    head: &Head,
     items: &[(Span, Name, Pat)],
-    part: Option<&Ty>,
-    around: Around,
+    meets: Meets<'_>,
     types: &mut List<Ty>,
 ) -> Result<spelled::Pat, TypeFault>
-    ensures { Gives (looking.literal_met decls.now head lists.now (p.fieldpats items.now) (option_copied part.entry) around types.old) result types.new }
+    ensures { Gives (looking.literal_met decls.now head.now (p.fieldpats items.now) (option_copied meets.entry.part) meets.entry.around types.old) result types.new }
 {
-    let kind = kind_seen(part);
-    let within = around_seen(around, kind);
-    let inner = literal(
-        alloc,
-        decls,
-        head,
-        lists,
-        items,
-        part_seen(part),
-        within,
-        types,
-    )?;
-    Ok(wrapped(alloc, kind, inner)?)
+    let inner = literal(alloc, decls, head, items, seen_of(meets), types)?;
+    Ok(wrapped(alloc, kind_seen(meets.part), inner)?)
 }
 
 /// Patterns of parts by place, with their types as far as these are known.
@@ -200,7 +164,8 @@ fn patterns(
 {
     let mut done = List::new(alloc);
     for i in 0..items.len() {
-        let item = match pattern(alloc, decls, &items[i], at(parts, i), around, types) {
+        let part = at(parts, i);
+        let item = match pattern(alloc, decls, &items[i], Meets { part, around }, types) {
             Ok(item) => item,
             Err(fault) => return Err(fault),
         };
@@ -217,15 +182,14 @@ fn tuple(
     decls: &List<TypeDecl>,
     span: Span,
     items: &[Pat],
-    part: Option<&Ty>,
-    around: Around,
+    meets: Meets<'_>,
     types: &mut List<Ty>,
 ) -> Result<spelled::Pat, TypeFault>
-    ensures { Gives (forms.tuple decls.now span (p.pats items.now) (meeting.met (option_copied part.entry) around) types.old) result types.new }
+    ensures { Gives (forms.tuple decls.now span (p.pats items.now) (meeting.met_as meets.entry) types.old) result types.new }
 {
-    let parts = tuple_types(alloc, items.len(), part)?;
-    let inner = patterns(alloc, decls, items, parts.as_slice(), around, types)?;
-    if is_no_tuple(items.len(), part) {
+    let parts = tuple_types(alloc, items.len(), meets.part)?;
+    let inner = patterns(alloc, decls, items, parts.as_slice(), meets.around, types)?;
+    if is_no_tuple(items.len(), meets.part) {
         return Err(TypeFault::At(span, KindOfFault::Mismatch));
     }
     Ok(spelled::Pat {
@@ -258,20 +222,19 @@ fn numbered(alloc: Global, items: List<spelled::Pat>) -> Result<List<(u32, spell
 fn construct(
     alloc: Global,
     decls: &List<TypeDecl>,
-    head: Head,
-    lists: &[List<Ty>],
+    head: &Head,
     items: &[Pat],
-    part: Option<&Ty>,
-    around: Around,
+    meets: Meets<'_>,
     types: &mut List<Ty>,
 ) -> Result<spelled::Pat, TypeFault>
-    ensures { Gives (forms.construct decls.now head lists.now (p.pats items.now) (meeting.met (option_copied part.entry) around) types.old) result types.new }
+    ensures { Gives (forms.construct decls.now head.now (p.pats items.now) (meeting.met_as meets.entry) types.old) result types.new }
 {
-    let args = constructor_arguments(alloc, decls.as_slice(), head.decl, lists, part)?;
+    let lists = head.lists.as_slice();
+    let args = constructor_arguments(alloc, decls.as_slice(), head.decl, lists, meets.part)?;
     let fields = fields_of(decls.as_slice(), head.decl, head.variant);
     let parts = put_in_fields(alloc, &args, fields)?;
-    let inner = patterns(alloc, decls, items, parts.as_slice(), around, types)?;
-    if is_other_declared(head.decl, &args, part) {
+    let inner = patterns(alloc, decls, items, parts.as_slice(), meets.around, types)?;
+    if is_other_declared(head.decl, &args, meets.part) {
         return Err(TypeFault::At(head.span, KindOfFault::Mismatch));
     }
     let count = parameters_of(decls.as_slice(), head.decl);
@@ -289,22 +252,22 @@ fn field_patterns(
     alloc: Global,
     decls: &List<TypeDecl>,
     items: &[(Span, Name, Pat)],
-    fields: &[(Name, Ty)],
-    args: &Option<List<Ty>>,
+    known: Known<'_>,
     around: Around,
     types: &mut List<Ty>,
 ) -> Result<List<(u32, spelled::Pat)>, TypeFault>
-    ensures { GivesAs q.fieldpats (spec.field_patterns decls.now (p.fieldpats items.now) fields.now args.now [] (meeting.nothing around) types.old) result types.new }
+    ensures { GivesAs q.fieldpats (spec.field_patterns decls.now (p.fieldpats items.now) known.entry.fields.now known.entry.args.now [] (meeting.nothing around) types.old) result types.new }
 {
     let mut done = List::new(alloc);
     let mut seen = List::new(alloc);
     for i in 0..items.len() {
         let item = &items[i];
-        let field = match new_field(alloc, &item.1, fields, seen.as_slice(), item.0) {
+        let field = match typed_field(alloc, &item.1, known, seen.as_slice(), item.0) {
             Ok(field) => field,
             Err(fault) => return Err(fault),
         };
-        let inner = match field_pattern(alloc, decls, &item.2, args, &field, around, types) {
+        let part = type_in(&field.1);
+        let inner = match pattern(alloc, decls, &item.2, Meets { part, around }, types) {
             Ok(inner) => inner,
             Err(fault) => return Err(fault),
         };
@@ -314,23 +277,29 @@ fn field_patterns(
     Ok(done)
 }
 
-/// A pattern that meets this field, with its type where the type arguments are known.
-#[cycle(patterns)]
-fn field_pattern(
-    alloc: Global,
-    decls: &List<TypeDecl>,
-    pat: &Pat,
-    args: &Option<List<Ty>>,
-    field: &(u32, Ty),
-    around: Around,
-    types: &mut List<Ty>,
-) -> Result<spelled::Pat, TypeFault>
-    ensures { Gives (spec.pattern decls.now pat.now (meeting.met (constructing.field_type args.now (Some field.now)) around) types.old) result types.new }
+/// The type that was found, if one was.
+fn type_in(found: &Option<Ty>) -> Option<&Ty>
+    ensures { option_copied result ≡ found.now }
 {
-    match field_type(alloc, args, field)? {
-        Some(ty) => pattern(alloc, decls, pat, Some(&ty), around, types),
-        None => pattern(alloc, decls, pat, None, around, types),
+    match found {
+        Some(ty) => Some(ty),
+        None => None,
     }
+}
+
+/// The number of the field with this name, and its type where the type arguments are known. At
+/// fault: `Field` where there is none, or it was seen.
+fn typed_field(
+    alloc: Global,
+    name: &Name,
+    known: Known<'_>,
+    seen: &[u32],
+    span: Span,
+) -> Result<(u32, Option<Ty>), TypeFault>
+    ensures { Answers (forms.typed_field known.entry.args.now name.now known.entry.fields.now seen.now span) result }
+{
+    let field = new_field(alloc, name, known.fields, seen, span)?;
+    Ok((field.0, field_type(alloc, known.args, &field)?))
 }
 
 /// The field with this name. At fault: `Field` where there is none, or it was seen.
@@ -360,19 +329,22 @@ fn new_field(
 fn literal(
     alloc: Global,
     decls: &List<TypeDecl>,
-    head: Head,
-    lists: &[List<Ty>],
+    head: &Head,
     items: &[(Span, Name, Pat)],
-    part: Option<&Ty>,
-    around: Around,
+    meets: Meets<'_>,
     types: &mut List<Ty>,
 ) -> Result<spelled::Pat, TypeFault>
-    ensures { Gives (forms.literal decls.now head lists.now (p.fieldpats items.now) (meeting.met (option_copied part.entry) around) types.old) result types.new }
+    ensures { Gives (forms.literal decls.now head.now (p.fieldpats items.now) (meeting.met_as meets.entry) types.old) result types.new }
 {
-    let args = constructor_arguments(alloc, decls.as_slice(), head.decl, lists, part)?;
+    let lists = head.lists.as_slice();
+    let args = constructor_arguments(alloc, decls.as_slice(), head.decl, lists, meets.part)?;
     let fields = fields_of(decls.as_slice(), head.decl, head.variant);
-    let inner = field_patterns(alloc, decls, items, fields, &args, around, types)?;
-    if is_other_declared(head.decl, &args, part) {
+    let known = Known {
+        fields,
+        args: &args,
+    };
+    let inner = field_patterns(alloc, decls, items, known, meets.around, types)?;
+    if is_other_declared(head.decl, &args, meets.part) {
         return Err(TypeFault::At(head.span, KindOfFault::Mismatch));
     }
     if is_wrong_list(parameters_of(decls.as_slice(), head.decl), lists) {

@@ -26,9 +26,6 @@ decreases-tuple_met l = 5 * nodes_pats (pats l.items.now) + 3
 abbrev pub decreases-construct_met : goal.decreases-construct_met
 decreases-construct_met l = 5 * nodes_pats (pats l.items.now) + 3
 
-abbrev pub decreases-field_pattern : goal.decreases-field_pattern
-decreases-field_pattern l = 5 * nodes_pat l.pat.now + 1
-
 abbrev pub decreases-field_patterns : goal.decreases-field_patterns
 decreases-field_patterns l = 5 * nodes_fieldpats (fieldpats l.items.now) + 2
 
@@ -42,8 +39,8 @@ invariant-patterns-loop-i l =
 
 abbrev pub invariant-field_patterns-loop-i : goal.invariant-field_patterns-loop-i
 invariant-field_patterns-loop-i l =
-    spec.field_patterns l.decls (fieldpats l.items) l.fields l.args [] (nothing l.around) l.fn.types
-    ≡ named.before l.done (spec.field_patterns l.decls (fieldpats (drop l.i l.items)) l.fields l.args (backwards l.seen []) (nothing l.around) l.types)
+    spec.field_patterns l.decls (fieldpats l.items) l.known.fields.now l.known.args.now [] (nothing l.around) l.fn.types
+    ≡ named.before l.done (spec.field_patterns l.decls (fieldpats (drop l.i l.items)) l.known.fields.now l.known.args.now (backwards l.seen []) (nothing l.around) l.types)
 
 abbrev pub decreases-literal_met : goal.decreases-literal_met
 decreases-literal_met l = 5 * nodes_fieldpats (fieldpats l.items.now) + 4
